@@ -1,0 +1,3 @@
+// Boards: a tree of devices at a point of its life.
+pub mod call;
+pub mod running;

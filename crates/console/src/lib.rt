@@ -1,0 +1,4 @@
+// Performs a script's commands on boards, and says in words what came of each.
+pub mod program;
+pub mod reply;
+pub mod session;

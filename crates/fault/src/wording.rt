@@ -1,0 +1,45 @@
+// Faults in words.
+use crate::Fault;
+use crate::Numbers;
+use std::fmt;
+
+// The six numbers with blanks between them.
+pub impl fmt::Display for Numbers as NumbersDisplay {
+    fn fmt<W: fmt::Write>(&self, f: &mut fmt::Formatter<W>) -> fmt::Result {
+        let Numbers {
+            number,
+            layer,
+            section,
+            subsection,
+            place,
+            detail,
+        } = *self;
+        write!(
+            f,
+            "{number} {layer} {section} {subsection} {place} {detail}"
+        )
+    }
+}
+
+// A sentence that says what is wrong and where, with the way out.
+pub impl fmt::Display for Fault as FaultDisplay {
+    fn fmt<W: fmt::Write>(&self, f: &mut fmt::Formatter<W>) -> fmt::Result {
+        match *self {
+            Fault::NoAddress { address } => {
+                write!(
+                    f,
+                    "address {address} is past the last address of this board"
+                )
+            }
+            Fault::NoInput { leaf } => {
+                write!(f, "leaf {leaf} has no input, so no byte can be fed to it")
+            }
+            Fault::TickCount { ticks } => {
+                write!(f, "one tick call passes 1 to 65535 ticks, not {ticks}")
+            }
+            Fault::TooManyLeaves { leaves } => {
+                write!(f, "a board has at most 16 leaves, not {leaves}")
+            }
+        }
+    }
+}

@@ -1,0 +1,5 @@
+pub mod State
+pub mod Rtc
+pub mod Time
+pub mod Worked
+pub mod Stream

@@ -1,0 +1,11 @@
+mod Adopted
+mod Closure
+mod Editions
+mod Fields
+mod Form
+mod Lawful
+mod Numbers
+mod Padded
+mod Rings
+mod Subsections
+mod Written

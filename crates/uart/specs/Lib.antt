@@ -1,0 +1,5 @@
+pub mod Ring
+pub mod Parts
+pub mod Uart
+pub mod View
+pub mod Stream
