@@ -6,7 +6,7 @@ use lib.Dec.{ltb}
 use Rattle.std.specs.declared.option.Option.{Option}
 use Rattle.device.specs.Kind.{Kind}
 use Rattle.device.specs.Format.{Format}
-use Rattle.tree.specs.Tree.{Tree, leaf, bus, State, Sound, width, hasInput}
+use Rattle.tree.specs.Tree.{Tree, leaf, bus, State, Sound, fresh, width, hasInput}
 
 -- each answer and next state, from the present state and the call; read, write and feed take an address
 pub record Calls (t : Tree) : Type 0 where
@@ -37,8 +37,9 @@ busCalls l r c d = record {
   tick = λ s n. (c .tick (s .0) n, d .tick (s .1) n);
 }
 
--- Every call that reaches a tree leaves it sound.
+-- A fresh tree is sound, and every call that reaches a tree leaves it sound.
 pub record Keeps (t : Tree) (c : Calls t) : Type 0 where
+  pub fresh : Sound t (fresh t)
   pub read : (s : State t) (a : ℕ) → a < width t → Sound t s → Sound t (c .read s a .1)
   pub write : (s : State t) (a b : ℕ) → a < width t → b < 256 → Sound t s → Sound t (c .write s a b .1)
   pub feed : (s : State t) (a b : ℕ) → a < width t → hasInput t a ≡ true → b < 256 → Sound t s → Sound t (c .feed s a b)
