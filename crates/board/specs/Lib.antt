@@ -1,1 +1,2 @@
 pub mod Guest
+pub mod Saving

@@ -7,18 +7,20 @@ ghost use Rattle.board.specs.Guest.{making, reading, writing, feeding, ticking
 ghost use Rattle.tree.specs.Tree.{leaves, width, lines};
 use crate::call::Answer;
 use crate::call::Call;
+use crate::slip::PauseSlip;
+use crate::stopped::Stopped;
 use fault::Fault;
 use tree::node::Node;
 
 // The most leaves that a board has.
-const MOST_LEAVES: u64 = 16;
+pub(crate) const MOST_LEAVES: u64 = 16;
 
 // The most ticks that one call passes.
 const MOST_TICKS: u32 = 65535;
 
 #[derive(Drop)]
 pub struct Running<T> {
-    tree: T,
+    pub(crate) tree: T,
 }
 
 // Refuses an address that the tree does not have.
@@ -120,5 +122,13 @@ impl<T: Node> Running<T> {
                 Call::Lines => Answer::Lines(self.lines()),
             },
         )
+    }
+
+    // Holds the board still. The slip is owed to whoever lets it go on.
+    pub fn stop(self) -> (Stopped<T>, PauseSlip)
+        ensures { λ r. ⌜ r .0 .tree ≡ self .tree ⌝ }
+    {
+        let Running { tree } = self;
+        (Stopped { tree }, PauseSlip::new())
     }
 }

@@ -18,50 +18,48 @@ fn obey(rt: &LibcRuntime, session: &mut Session, at: u64, line: &str) -> Result<
         Ok(None) => return Ok(()),
         Err(mistake) => return Err(format!(rt.alloc(), "line {at}: {mistake}")?.into()),
     };
-    match session.perform(rt.alloc(), command) {
+    match session.perform(rt, command) {
         Ok(reply) => Ok(println!(rt, "{command} -> {reply}")?),
         Err(trouble) => Err(format!(rt.alloc(), "line {at}: {trouble}")?.into()),
     }
 }
 
-fn obey_file(rt: &LibcRuntime, path: &str) -> Result<(), AnyError> {
+fn obey_file(rt: &LibcRuntime, session: &mut Session, path: &str) -> Result<(), AnyError> {
     let text = fs::read_to_string(rt, path)?;
-    let mut session = Session::new(rt.alloc());
     let mut at = 0u64;
     for line in text.lines() {
         at = at.saturating_add(1);
-        obey(rt, &mut session, at, line)?;
+        obey(rt, session, at, line)?;
     }
     Ok(())
 }
 
-fn obey_input(rt: &LibcRuntime) -> Result<(), AnyError> {
-    let mut session = Session::new(rt.alloc());
+fn obey_input(rt: &LibcRuntime, session: &mut Session) -> Result<(), AnyError> {
     let mut at = 0u64;
     for line in BufReader::new(rt.stdin()).lines(rt.alloc()) {
         at = at.saturating_add(1);
-        obey(rt, &mut session, at, line?.as_str())?;
+        obey(rt, session, at, line?.as_str())?;
     }
     Ok(())
 }
 
-fn run_script(rt: &LibcRuntime) -> Result<(), AnyError> {
+fn obey_script(rt: &LibcRuntime, session: &mut Session) -> Result<(), AnyError> {
     let mut args = env::args(rt)?;
     let _ = args.next();
     match args.next() {
-        Some(path) => obey_file(rt, path.as_str()),
-        None => obey_input(rt),
+        Some(path) => obey_file(rt, session, path.as_str()),
+        None => obey_input(rt, session),
     }
 }
 
 // Performs the script in the file that the first argument names, or else in standard input, and prints each command with
 // its reply. A failure goes to standard error, and is handed on.
 pub fn run(rt: &LibcRuntime) -> Result<(), AnyError> {
-    match run_script(rt) {
-        Ok(()) => Ok(()),
-        Err(e) => {
-            let _ = eprintln!(rt, "panel: {e}");
-            Err(e)
-        }
+    let mut session = Session::new(rt.alloc());
+    let result = obey_script(rt, &mut session);
+    session.close();
+    if let Err(e) = &result {
+        let _ = eprintln!(rt, "panel: {e}");
     }
+    result
 }

@@ -1,36 +1,38 @@
 // The boards that a script has made, and the one at hand.
+ghost use Prim.Native.Nat.{_<_};
+ghost use Rattle.std.specs.Of.Vec.{vec-len};
+ghost use Rattle.std.specs.Options.{Cases};
+use crate::life::Life;
 use crate::reply::Reply;
-use base::BaseTree;
-use base::base_board;
-use board::running::Running;
-use rtc::RtcMovable;
 use script::line::Command;
-use std::alloc::AllocError;
 use std::alloc::Global;
 use std::fmt;
-use tree::bus::BusNode;
-use tree::leaf::LeafNode;
-use uart::UartMovable;
+use std::fs;
 
-#[derive(Drop)]
 struct Named {
     name: String,
-    board: Running<BaseTree>,
+    life: Life,
 }
 
-#[derive(Drop)]
+impl Named {
+    fn close(self) {
+        let Named { name: _, life } = self;
+        life.close();
+    }
+}
+
+// The board at hand stands last.
 pub struct Session {
     boards: Vec<Named>,
-    // The place of the board at hand; past the end before the first board is made.
-    at: usize,
 }
 
-// Why a command cannot be carried out on the boards that there are.
+// Why a command cannot be carried out.
 #[derive(Clone, Copy)]
 pub enum Trouble<'a> {
     NoBoard,
     UnknownBoard(&'a str),
     NameTaken(&'a str),
+    Unwritable(&'a str),
     NoMemory,
 }
 
@@ -43,6 +45,7 @@ pub impl fmt::Display for Trouble<'_> as TroubleDisplay {
             ),
             Trouble::UnknownBoard(name) => write!(f, "there is no board `{name}`"),
             Trouble::NameTaken(name) => write!(f, "there is a board `{name}` already"),
+            Trouble::Unwritable(path) => write!(f, "the file `{path}` cannot be written"),
             Trouble::NoMemory => write!(f, "out of memory"),
         }
     }
@@ -52,31 +55,70 @@ impl Session {
     pub fn new(heap: Global) -> Session {
         Session {
             boards: Vec::new(heap),
-            at: 0,
         }
     }
 
     // Carries out a command.
     pub fn perform<'a>(
         &mut self,
-        heap: Global,
+        rt: &LibcRuntime,
         command: Command<'a>,
     ) -> Result<Reply, Trouble<'a>> {
-        match command {
-            Command::Board { name } => self.make(heap, name),
-            Command::On { name } => self.go_on(name),
-            Command::Guest(call) => match self.boards.get_mut(self.at) {
-                None => Err(Trouble::NoBoard),
-                Some(named) => match named.board.perform(call) {
-                    Ok(answer) => Ok(Reply::Answered(answer)),
-                    Err(fault) => Ok(Reply::Refused(fault)),
-                },
-            },
+        if let Command::Board { name } = command {
+            return self.make(rt.alloc(), name);
+        }
+        if let Command::On { name } = command {
+            return self.go_on(name);
+        }
+        if let Command::Save {
+            edition,
+            size,
+            path,
+        } = command {
+            return self.save(rt, edition, size as usize, path);
+        }
+        self.change(command)
+    }
+
+    // Gives all boards up.
+    pub fn close(self) {
+        let Session { mut boards } = self;
+        while let Some(named) = boards.pop() {
+            named.close();
+        }
+        boards.destroy_empty();
+    }
+
+    // Takes the board at hand.
+    fn take<'a>(&mut self) -> Result<Named, Trouble<'a>> {
+        match self.boards.pop() {
+            Some(named) => Ok(named),
+            None => Err(Trouble::NoBoard),
         }
     }
 
+    // Puts a board at hand, and answers.
+    fn put<'a>(&mut self, named: Named, reply: Reply) -> Result<Reply, Trouble<'a>> {
+        match self.boards.push(named) {
+            Ok(()) => Ok(reply),
+            Err(refused) => {
+                refused.value.close();
+                Err(Trouble::NoMemory)
+            }
+        }
+    }
+
+    // Carries out a command that changes the board at hand.
+    fn change<'a>(&mut self, command: Command<'a>) -> Result<Reply, Trouble<'a>> {
+        let Named { name, life } = self.take()?;
+        let (reply, life) = life.perform(command);
+        self.put(Named { name, life }, reply)
+    }
+
     // The place of the board of a name.
-    fn find(&self, name: &str) -> Option<usize> {
+    fn find(&self, name: &str) -> Option<usize>
+        ensures { λ r. ⌜ Cases r (Unit {0}) (λ i. i < vec-len (now (self .entry) .boards)) ⌝ }
+    {
         for (i, named) in self.boards.iter().enumerate() {
             if named.name.as_str() == name {
                 return Some(i);
@@ -89,30 +131,48 @@ impl Session {
         if self.find(name).is_some() {
             return Err(Trouble::NameTaken(name));
         }
-        let Ok(text) = String::from_str(heap, name) else {
+        let Ok(name) = String::from_str(heap, name) else {
             return Err(Trouble::NoMemory);
         };
-        let named = Named {
-            name: text,
-            board: base_board(),
-        };
-        let place = self.boards.len();
-        match self.boards.push(named) {
-            Ok(()) => {
-                self.at = place;
-                Ok(Reply::Running)
-            }
-            Err(_) => Err(Trouble::NoMemory),
-        }
+        let life = Life::new();
+        self.put(Named { name, life }, Reply::Running)
     }
 
     fn go_on<'a>(&mut self, name: &'a str) -> Result<Reply, Trouble<'a>> {
         match self.find(name) {
             Some(place) => {
-                self.at = place;
-                Ok(Reply::Running)
+                let named = self.boards.remove(place);
+                let state = named.life.state();
+                self.put(named, state)
             }
             None => Err(Trouble::UnknownBoard(name)),
+        }
+    }
+
+    // Saves the board at hand, and keeps the stream in a file.
+    fn save<'a>(
+        &self,
+        rt: &LibcRuntime,
+        edition: u32,
+        size: usize,
+        path: &'a str,
+    ) -> Result<Reply, Trouble<'a>> {
+        let Some(named) = self.boards.last() else {
+            return Err(Trouble::NoBoard);
+        };
+        let Ok(mut buffer) = vec![in rt.alloc(); 0u8; size] else {
+            return Err(Trouble::NoMemory);
+        };
+        match named.life.save(edition, buffer.as_mut_slice()) {
+            None => Ok(Reply::NotAdmitted),
+            Some(Err(fault)) => Ok(Reply::Refused(fault)),
+            Some(Ok(length)) => {
+                buffer.truncate(length);
+                match fs::write(rt, path, buffer.as_slice()) {
+                    Ok(()) => Ok(Reply::Saved(length)),
+                    Err(_) => Err(Trouble::Unwritable(path)),
+                }
+            }
         }
     }
 }

@@ -1,13 +1,14 @@
 -- How the states of a kind travel: bodies by version, subsections by number, and what each edition does with them.
 use mathlib.Core.Path.{_≡_}
 use mathlib.Core.List.{List, [], _∷_}
-use mathlib.Core.Bool.{Bool, true, cond}
+use mathlib.Core.Bool.{Bool, true, not, cond, _&&_}
 use Prim.Native.Nat.{ℕ, zero, suc, _≤_, _<_}
-use lib.ListN.{length, getD}
+use lib.Dec.{leb}
+use lib.ListN.{length, getD, take, drop}
 use Rattle.std.specs.declared.option.Option.{Option}
-use Rattle.std.specs.declared.option.Option.the-variants.{None}
+use Rattle.std.specs.declared.option.Option.the-variants.{Some, None}
 use Rattle.std.specs.shelf.Lists.{All}
-use Rattle.device.specs.Bytes.{Bytes, differs, total}
+use Rattle.device.specs.Bytes.{Bytes, same, differs, total}
 
 -- the highest edition
 abbrev pub latest : ℕ
@@ -17,6 +18,10 @@ latest = 3
 pub record Served (e : ℕ) : Type 0 where
   pub low : 1 ≤ e
   pub high : e ≤ latest
+
+-- whether an edition is one of them
+abbrev pub isServed : ℕ → Bool
+isServed e = leb 1 e && leb e latest
 
 -- what an edition does with a kind: the version that it writes, the versions that it takes, the subsections that it knows
 pub record Edition : Type 0 where
@@ -50,6 +55,12 @@ pub record Format (S : Type 0) : Type 0 where
   pub check : ℕ → List ℕ → Option ℕ  -- the first refused field of a body of a version
   pub checkSub : ℕ → List ℕ → ℕ → List ℕ → Option ℕ  -- the same of a subsection beside a body of a version
   pub adopt : Section → Option S  -- the state that a section gives
+
+-- the first field, counted from k, in which two bodies with fields of these sizes differ
+abbrev pub differFrom : ℕ → List ℕ → List ℕ → List ℕ → Option ℕ
+differFrom k [] xs ys = None
+differFrom k (n ∷ ns) xs ys =
+    cond (same (take n xs) (take n ys)) (differFrom (suc k) ns (drop n xs) (drop n ys)) (Some k)
 
 module _ {S : Type 0} (f : Format S) where
   -- how many subsections there are
@@ -92,6 +103,20 @@ module _ {S : Type 0} (f : Format S) where
   abbrev pub sectionBy : ℕ → S → Section
   sectionBy e s = sectionAt (f .edition e .writes) s
 
+  -- the first field absent from version v that is off its default
+  abbrev pub offDefault : ℕ → S → Option ℕ
+  offDefault v s = differFrom 0 (f .fields (f .last)) (f .complete v (f .body v s)) (f .body (f .last) s)
+
+  -- the first needed subsection that edition e does not know, of the n from number k on
+  abbrev pub unknownFrom : ℕ → S → ℕ → ℕ → Option ℕ
+  unknownFrom e s k zero = None
+  unknownFrom e s k (suc n) =
+      cond (needs s k && not (f .edition e .knows k)) (Some k) (unknownFrom e s (suc k) n)
+
+  -- the first needed subsection that edition e does not know
+  abbrev pub unknown : ℕ → S → Option ℕ
+  unknown e s = unknownFrom e s 0 count
+
   -- Edition e carries a state: it knows every needed subsection, and each field absent from the version that it writes is at its default.
   pub record Carries (e : ℕ) (s : S) : Type 0 where
     pub knows : (k : ℕ) → k < count → needs s k ≡ true → f .edition e .knows k ≡ true
@@ -102,11 +127,19 @@ module _ {S : Type 0} (f : Format S) where
     pub low : f .edition e .lowest ≤ v
     pub high : v ≤ f .edition e .highest
 
+  -- whether edition e takes version v
+  abbrev pub taken : ℕ → ℕ → Bool
+  taken e v = leb (f .edition e .lowest) v && leb v (f .edition e .highest)
+
+  -- whether bytes are not the default of subsection k beside a body of version v
+  abbrev pub isNeeded : ℕ → List ℕ → ℕ → List ℕ → Bool
+  isNeeded v body k own = differs own (f .default k (f .complete v body))
+
   -- subsection k beside a body of version v: it has its size, passes the check and is needed
   pub record SubPasses (v : ℕ) (body : List ℕ) (k : ℕ) (own : List ℕ) : Type 0 where
     pub long : length own ≡ subSize k
     pub checked : f .checkSub v body k own ≡ None
-    pub needed : differs own (f .default k (f .complete v body)) ≡ true
+    pub needed : isNeeded v body k own ≡ true
 
   -- subsections of the table in the order of their numbers, none below n
   abbrev pub Ascending : ℕ → List (ℕ × List ℕ) → Type 0

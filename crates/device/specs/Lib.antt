@@ -2,3 +2,4 @@ pub mod Bytes
 pub mod Kind
 pub mod Format
 pub mod Obligations
+pub mod Table

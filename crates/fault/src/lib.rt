@@ -14,6 +14,14 @@ pub enum Fault {
     NoInput { leaf: u32 },
     // A tick call passes 1 to 65,535 ticks.
     TickCount { ticks: u32 },
+    // There is no such edition.
+    NoEdition { edition: u32 },
+    // A save at an edition that does not write this field, which is off its default.
+    FieldNotCarried { leaf: u8, field: u16 },
+    // A save at an edition that does not know this subsection, which the state needs.
+    SubsectionNotCarried { leaf: u8, subsection: u8 },
+    // The buffer is too short for the stream.
+    ShortBuffer { needed: usize },
     // A board has at most 16 leaves; a count over 255 shows as 255.
     TooManyLeaves { leaves: u8 },
 }

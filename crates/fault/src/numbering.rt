@@ -21,6 +21,20 @@ fn of_board(number: u8, detail: u64) -> Numbers
     }
 }
 
+// A state that an edition does not carry.
+fn of_state(leaf: u8, subsection: u8) -> Numbers
+    ensures { λ r. ⌜ r ≡ six 5 4 leaf subsection 0 0 ⌝ }
+{
+    Numbers {
+        number: 5,
+        layer: 4,
+        section: u32::from(leaf),
+        subsection,
+        place: 0,
+        detail: 0,
+    }
+}
+
 impl Fault {
     pub fn numbers(&self) -> Numbers
         ensures { λ r. ⌜ r ≡ numbersOf (now (self .entry)) ⌝ }
@@ -34,6 +48,15 @@ impl Fault {
                 }
             }
             Fault::TickCount { ticks } => of_board(3, u64::from(ticks)),
+            Fault::NoEdition { edition } => of_board(4, u64::from(edition)),
+            Fault::FieldNotCarried { leaf, field } => {
+                Numbers {
+                    detail: u64::from(field),
+                    ..of_state(leaf, NONE)
+                }
+            }
+            Fault::SubsectionNotCarried { leaf, subsection } => of_state(leaf, subsection),
+            Fault::ShortBuffer { needed } => of_board(6, needed as u64),
             Fault::TooManyLeaves { leaves } => of_board(7, u64::from(leaves)),
         }
     }

@@ -37,6 +37,24 @@ pub impl fmt::Display for Fault as FaultDisplay {
             Fault::TickCount { ticks } => {
                 write!(f, "one tick call passes 1 to 65535 ticks, not {ticks}")
             }
+            Fault::NoEdition { edition } => {
+                write!(f, "there is no edition {edition}: the editions are 1 to 3")
+            }
+            Fault::FieldNotCarried { leaf, field } => {
+                write!(
+                    f,
+                    "leaf {leaf} is in a state that this edition does not write, by field {field}; save at a later edition"
+                )
+            }
+            Fault::SubsectionNotCarried { leaf, subsection } => {
+                write!(
+                    f,
+                    "leaf {leaf} needs subsection {subsection}, which this edition does not know; save at a later edition"
+                )
+            }
+            Fault::ShortBuffer { needed } => {
+                write!(f, "the stream has {needed} bytes, and the buffer fewer")
+            }
             Fault::TooManyLeaves { leaves } => {
                 write!(f, "a board has at most 16 leaves, not {leaves}")
             }

@@ -1,21 +1,24 @@
 -- Bodies of the clock: their sizes, and that a complete body and the state that it stands for determine each other.
-use mathlib.Core.Path.{_≡_, refl, sym, ap, _∙_}
+use mathlib.Core.Path.{_≡_, refl, sym, ap, ap₂, _∙_}
 use mathlib.Core.List.{List, [], _∷_, _++_}
 use mathlib.Core.Bool.{Bool, true, false, cond, _||_}
 use mathlib.Core.Logic.{inl, inr}
 use Prim.Native.Nat.{ℕ, _+_, _≤_, _<_, _^_}
 use native.Mathlib.Omega.{arith}
 use lib.Dec.{leb, eqb}
-use lib.ListN.{length, getD, take, drop}
+use lib.ListN.{length, getD, take, drop, replicate}
+use Rattle.std.specs.declared.option.Option.the-variants.{Some, None}
 use Rattle.std.proofs.shelf.Elements.{all-take, all-drop, all-push}
-use Rattle.std.proofs.shelf.Lists.{append-assoc, length-append, length-drop, length-take-le, take-at, drop-at, drop-drop}
+use Rattle.std.proofs.shelf.Lists.{append-assoc, length-append, length-drop, length-take-le, take-all, take-at, drop-at, drop-drop}
 use Rattle.std.proofs.shelf.Lists.{drop-all, drop-more, getD-append-right, take-append-drop, same-from-push}
-use Rattle.std.proofs.shelf.Tests.{cases-lt, le-leb, lt-leb, eqb-true, or-cases}
+use Rattle.std.proofs.shelf.Tests.{cases-lt, le-leb, lt-leb, le-ltb, lt-ltb, eqb-true, or-cases}
 use Rattle.device.specs.Bytes.{Bytes, four, value, total}
+use Rattle.device.specs.Format.{differFrom}
 use Rattle.rtc.specs.Rtc.{flags}
-use Rattle.rtc.specs.Stream.{from2, fields, body, complete, flagsOf, stateOf}
+use Rattle.rtc.specs.Stream.{from2, fields, body, complete, leftOut, flagsOf, stateOf}
 use Rattle.rtc.specs.declared.state.RtcState.{RtcState}
-use Rattle.rtc.proofs.Numbers.{value-four, four-value}
+use Rattle.device.proofs.FourBytes.{value-four, four-value}
+use Rattle.rtc.proofs.Fields.{differ-self, differ-after}
 
 -- ---- versions: from 2 on, and below
 
@@ -123,33 +126,72 @@ body-back (x ∷ bs) n b e =
 
 -- ---- the bodies of all versions
 
+-- what every version has
+abbrev front : RtcState → List ℕ
+front s = s .index ∷ s .registers ++ four (s .phase)
+
+last-is : (s : RtcState) → body 2 s ≡ front s ++ (flags s ∷ [])
+last-is s = ap (λ (l : List ℕ). s .index ∷ l) (sym (append-assoc (s .registers) (four (s .phase)) (flags s ∷ [])))
+
+body-on : (v : ℕ) (s : RtcState) → 2 ≤ v → body v s ≡ body 2 s
+body-on v s h = ap (λ (l : List ℕ). s .index ∷ s .registers ++ (four (s .phase) ++ l)) (from2-on v h (flags s ∷ []))
+
+body-off : (v : ℕ) (s : RtcState) → v < 2 → body v s ≡ front s
+body-off v s h = ap (λ (l : List ℕ). s .index ∷ s .registers ++ (four (s .phase) ++ l)) (from2-off v h (flags s ∷ []))
+
 -- a state that writes what a body was completed to writes that body
 pub older : (v : ℕ) (s : RtcState) (bs : List ℕ) → body 2 s ≡ complete v bs → body v s ≡ bs
 older v s bs e =
-    let front = λ (l : List ℕ). s .index ∷ s .registers ++ (four (s .phase) ++ l) in
     elim (cases-lt v 2) [
       | inl h ↦
-          let joined : (s .index ∷ s .registers ++ four (s .phase)) ++ (flags s ∷ []) ≡ bs ++ (0 ∷ []) =
-          ap (λ (l : List ℕ). s .index ∷ l) (append-assoc (s .registers) (four (s .phase)) (flags s ∷ []))
-          ∙ e ∙ complete-off v h bs in
-          ap front (from2-off v h (flags s ∷ [])) ∙ same-from-push _ bs (flags s) 0 joined .0
-      | inr h ↦ ap front (from2-on v h (flags s ∷ [])) ∙ e ∙ complete-on v h bs
+          let joined : front s ++ (flags s ∷ []) ≡ bs ++ (0 ∷ []) = sym (last-is s) ∙ e ∙ complete-off v h bs in
+          body-off v s h ∙ same-from-push (front s) bs (flags s) 0 joined .0
+      | inr h ↦ body-on v s h ∙ e ∙ complete-on v h bs
     ]
 
 -- a version that leaves nothing out completes to all of a state
 pub completed-on : (v : ℕ) (s : RtcState) → 2 ≤ v → complete v (body v s) ≡ body 2 s
-completed-on v s h =
-    complete-on v h (body v s)
-    ∙ ap (λ (l : List ℕ). s .index ∷ s .registers ++ (four (s .phase) ++ l)) (from2-on v h (flags s ∷ []))
+completed-on v s h = complete-on v h (body v s) ∙ body-on v s h
 
--- and so does any version where the flags are at their default
+-- one that leaves the flags out completes with their default
+completed-off : (v : ℕ) (s : RtcState) → v < 2 → complete v (body v s) ≡ front s ++ (0 ∷ [])
+completed-off v s h = complete-off v h (body v s) ∙ ap (λ (l : List ℕ). l ++ (0 ∷ [])) (body-off v s h)
+
+-- where that is what they are, any version completes to all of a state
 pub completed : (v : ℕ) (s : RtcState) → flags s ≡ 0 → complete v (body v s) ≡ body 2 s
 completed v s z =
     elim (cases-lt v 2) [
-      | inl h ↦
-          complete-off v h (body v s)
-          ∙ ap (λ (l : List ℕ). (s .index ∷ s .registers ++ (four (s .phase) ++ l)) ++ (0 ∷ [])) (from2-off v h (flags s ∷ []))
-          ∙ ap (λ (l : List ℕ). s .index ∷ l) (append-assoc (s .registers) (four (s .phase)) (0 ∷ []))
-          ∙ ap (λ (f : ℕ). s .index ∷ s .registers ++ (four (s .phase) ++ (f ∷ []))) (sym z)
+      | inl h ↦ completed-off v s h ∙ ap (λ (f : ℕ). front s ++ (f ∷ [])) (sym z) ∙ sym (last-is s)
       | inr h ↦ completed-on v s h
+    ]
+
+last-field : (u : Bool) → differFrom 64 (1 ∷ []) (0 ∷ []) (cond u 0x10 0 ∷ []) ≡ cond u (Some 64) None
+last-field true = refl
+last-field false = refl
+
+-- a body with every field begins with that of any version
+pub begins : (v : ℕ) (s : RtcState) → length (body 2 s) ≡ 68 → take (total (fields v)) (body 2 s) ≡ body v s
+begins v s n =
+    elim (cases-lt v 2) [
+      | inl h ↦
+          let m : length (front s) ≡ 67 = simp length-append (omega (arith, simp length-append at n)) in
+          ap₂ take (size-off v h) (last-is s) ∙ take-at (front s) (flags s ∷ []) 67 m ∙ sym (body-off v s h)
+      | inr h ↦
+          ap (λ (k : ℕ). take k (body 2 s)) (size-on v h) ∙ take-all 68 (body 2 s) (omega arith) ∙ sym (body-on v s h)
+    ]
+
+-- only the flags can be left out and off their default
+pub off-default :
+    (v : ℕ) (s : RtcState) → length (s .registers) ≡ 62
+    → differFrom 0 (fields 2) (complete v (body v s)) (body 2 s) ≡ leftOut v s
+off-default v s n =
+    elim (cases-lt v 2) [
+      | inl h ↦
+          let m : length (front s) ≡ 67 = simp length-append (omega arith) in
+          ap₂ (differFrom 0 (fields 2)) (completed-off v s h) (last-is s)
+          ∙ differ-after 0 (replicate 63 1 ++ (4 ∷ [])) (1 ∷ []) (front s) (0 ∷ []) (flags s ∷ []) m
+          ∙ last-field (s .updated) ∙ rw (lt-ltb v 2 h)
+      | inr h ↦
+          ap (λ (bs : List ℕ). differFrom 0 (fields 2) bs (body 2 s)) (completed-on v s h)
+          ∙ differ-self 0 (fields 2) (body 2 s) ∙ rw (le-ltb v 2 h)
     ]

@@ -2,6 +2,6 @@ mod Codes
 mod Soundness
 mod DayTime
 pub mod Worked
-mod Numbers
+mod Fields
 mod Bodies
 mod Moves

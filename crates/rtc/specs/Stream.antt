@@ -1,6 +1,6 @@
 -- How the clock's states travel.
 use mathlib.Core.List.{List, [], _∷_, _++_}
-use mathlib.Core.Bool.{Bool, false, cond, _||_}
+use mathlib.Core.Bool.{Bool, false, cond, _&&_, _||_}
 use Prim.Native.Nat.{ℕ, _+_}
 use lib.Dec.{ltb, leb, eqb}
 use lib.ListN.{getD, take, drop, replicate}
@@ -27,6 +27,10 @@ body v s = s .index ∷ s .registers ++ (four (s .phase) ++ from2 v (flags s ∷
 -- absent flags are 0
 abbrev pub complete : ℕ → List ℕ → List ℕ
 complete v bs = cond (leb 2 v) bs (bs ++ (0 ∷ []))
+
+-- the field that version v leaves out, if it is off its default
+abbrev pub leftOut : ℕ → RtcState → Option ℕ
+leftOut v s = cond (ltb v 2 && s .updated) (Some 64) None
 
 -- ---- what is read, from a complete body
 

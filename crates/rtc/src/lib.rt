@@ -1,15 +1,17 @@
 // The clock chip, after the MC146818: an index register, and the registers behind it.
+pub use stream::RtcMovable;
+
+mod body;
 mod registers;
 pub mod state;
+mod stream;
 mod time;
 
 use self::state::RtcState;
 use device::Device;
-use device::Movable;
 ghost use mathlib.Core.Path.{_≡_};
 ghost use Rattle.rtc.specs.Rtc as rules;
 ghost use Rattle.rtc.specs.Rtc.{Sound, ticksPerSecond};
-ghost use Rattle.rtc.specs.Stream as stream;
 ghost use Rattle.rtc.specs.Time.{Keeps-time};
 ghost use Rattle.rtc.specs.Worked.{Midnight};
 
@@ -46,6 +48,10 @@ pub impl Device for Rtc as RtcDevice {
 
     fn sound(&self) {}
 
+    fn name() -> &'static [u8] {
+        b"rtc"
+    }
+
     fn width() -> u32 {
         WIDTH
     }
@@ -76,12 +82,6 @@ pub impl Device for Rtc as RtcDevice {
     fn line(&self) -> bool {
         self.state.line()
     }
-}
-
-pub impl Movable for Rtc as RtcMovable {
-    ghost format = { stream.format ticksPerSecond };
-
-    fn lawful() {}
 }
 
 // Does nothing: it promises that an update shows the next second of the day.

@@ -15,9 +15,9 @@ const DAY: usize = 7;
 const MONTH: usize = 8;
 
 // The control registers.
-const REG_A: u8 = 10;
+pub(crate) const REG_A: u8 = 10;
 
-const REG_B: u8 = 11;
+pub(crate) const REG_B: u8 = 11;
 
 const REG_C: u8 = 12;
 
@@ -38,14 +38,14 @@ const B_KEPT_HELD: u8 = 0xa4;
 const B_ALWAYS: u8 = 0x02;
 
 // Register C: the update flag UF, and the interrupt flag IRQF. Register D: time and memory are valid, VRT.
-const UF: u8 = 0x10;
+pub(crate) const UF: u8 = 0x10;
 
 const IRQF: u8 = 0x80;
 
 const VRT: u8 = 0x80;
 
 // What a write to register B stores.
-fn stored_b(value: u8) -> u8
+pub(crate) fn stored_b(value: u8) -> u8
     ensures { λ r. ⌜ r ≡ rules.storedB value ⌝ }
 {
     let kept = if bit(SET, value) { B_KEPT_HELD } else { B_KEPT };
@@ -106,14 +106,21 @@ impl RtcState {
         self.updated && self.control(UIE)
     }
 
+    // Register C without its highest bit.
+    pub(crate) fn flags(&self) -> u8
+        ensures { λ r. ⌜ r ≡ rules.flags (now (self .entry)) ⌝ }
+    {
+        if self.updated { UF } else { 0 }
+    }
+
     // Register C; reading it clears the update flag.
     fn read_flags(&mut self) -> u8
         ensures { λ r. ⌜ (r, now (self .exit)) ≡ rules.readRegister (now (self .entry)) rules.regC ⌝ }
     {
         let asking = if self.line() { IRQF } else { 0 };
-        let updated = if self.updated { UF } else { 0 };
+        let flags = self.flags();
         self.updated = false;
-        updated + asking
+        flags + asking
     }
 
     fn read_register(&mut self, register: u8) -> u8

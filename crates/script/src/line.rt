@@ -8,11 +8,23 @@ use std::fmt;
 #[derive(Clone, Copy)]
 pub enum Command<'a> {
     // Makes a running board of that name, and goes on with it.
-    Board { name: &'a str },
+    Board {
+        name: &'a str,
+    },
     // Goes on with the board of that name.
-    On { name: &'a str },
-    // A call to the board at hand.
+    On {
+        name: &'a str,
+    },
+    // A call of the guest of the board at hand.
     Guest(Call),
+    Stop,
+    // Saves at an edition into a buffer of that size, and keeps the stream in a file.
+    Save {
+        edition: u32,
+        size: u32,
+        path: &'a str,
+    },
+    Resume,
 }
 
 // Reads a line: a command, or none where it is empty or only a comment.
@@ -26,6 +38,9 @@ pub fn read_line<'a>(line: &'a str) -> Result<Option<Command<'a>>, Mistake<'a>> 
         "on" => Command::On {
             name: words.word("the board's name")?,
         },
+        "stop" => Command::Stop,
+        "save" => save(&mut words)?,
+        "resume" => Command::Resume,
         _ => Command::Guest(call(word, &mut words)?),
     };
     words.end()?;
@@ -39,6 +54,14 @@ fn board<'a>(words: &mut Words<'a>) -> Result<Command<'a>, Mistake<'a>> {
         Some(word) => Err(Mistake::NotAState(word)),
         None => Err(Mistake::Missing("`running`")),
     }
+}
+
+fn save<'a>(words: &mut Words<'a>) -> Result<Command<'a>, Mistake<'a>> {
+    Ok(Command::Save {
+        edition: words.number("the edition")?,
+        size: words.number("the size of the buffer")?,
+        path: words.word("the file for the stream")?,
+    })
 }
 
 fn call<'a>(word: &'a str, words: &mut Words<'a>) -> Result<Call, Mistake<'a>> {
@@ -76,6 +99,13 @@ pub impl fmt::Display for Command<'_> as CommandDisplay {
             Command::Guest(Call::Feed { address, byte }) => write!(f, "feed {address} {byte:#04x}"),
             Command::Guest(Call::Tick { ticks }) => write!(f, "tick {ticks}"),
             Command::Guest(Call::Lines) => write!(f, "lines"),
+            Command::Stop => write!(f, "stop"),
+            Command::Save {
+                edition,
+                size,
+                path,
+            } => write!(f, "save {edition} {size} {path}"),
+            Command::Resume => write!(f, "resume"),
         }
     }
 }

@@ -1,2 +1,4 @@
 pub mod Tree
 pub mod Calls
+pub mod Stream
+pub mod Carrying

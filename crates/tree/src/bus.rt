@@ -5,6 +5,8 @@ ghost use Rattle.std.specs.Numbers.{Checked};
 ghost use Rattle.tree.specs.Calls.{busCalls};
 ghost use Rattle.tree.specs.Tree.{bus, leaves, lines, width};
 use crate::node::Node;
+use fault::Fault;
+use section::names::NamesBefore;
 
 // The right tree's addresses and leaves follow those of the left.
 #[derive(Drop)]
@@ -124,5 +126,22 @@ pub impl<L: Node, R: Node> Node for Bus<L, R> as BusNode {
 
     fn lines(&self) -> u16 {
         lines_beside(&self.left, &self.right)
+    }
+
+    fn refusal(&self, first: u8, edition: u32) -> Option<Fault> {
+        match self.left.refusal(first, edition) {
+            Some(fault) => Some(fault),
+            None => self.right.refusal(first + L::leaves() as u8, edition),
+        }
+    }
+
+    fn sections_size(&self, edition: u32) -> usize {
+        self.left.sections_size(edition) + self.right.sections_size(edition)
+    }
+
+    // The right tree is lent what the left one leaves of the buffer.
+    fn write_sections(&self, edition: u32, before: &mut NamesBefore, out: &mut [u8]) -> usize {
+        let n = self.left.write_sections(edition, before, out);
+        n + self.right.write_sections(edition, before, &mut out[n..])
     }
 }

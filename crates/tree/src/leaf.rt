@@ -5,6 +5,11 @@ ghost use Rattle.tree.specs.Tree.{leaf};
 use crate::node::Node;
 use device::Device;
 use device::Movable;
+use fault::Fault;
+use section::carrying;
+use section::names::NamesBefore;
+use section::size::section_size;
+use section::writing::put_section;
 
 #[derive(Drop)]
 pub struct Leaf<D> {
@@ -77,5 +82,19 @@ pub impl<D: Movable> Node for Leaf<D> as LeafNode {
 
     fn lines(&self) -> u16 {
         u16::from(self.device.line())
+    }
+
+    fn refusal(&self, first: u8, edition: u32) -> Option<Fault> {
+        carrying::refusal(&self.device, first, edition)
+    }
+
+    fn sections_size(&self, edition: u32) -> usize {
+        section_size(&self.device, edition)
+    }
+
+    fn write_sections(&self, edition: u32, before: &mut NamesBefore, out: &mut [u8]) -> usize {
+        let n = put_section(&self.device, edition, before, out);
+        before.push(D::name());
+        n
     }
 }

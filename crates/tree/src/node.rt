@@ -1,10 +1,18 @@
 // What code over any tree of devices can ask of it.
 ghost use mathlib.Core.Bool.{true};
 ghost use mathlib.Core.Path.{_≡_};
-ghost use Prim.Native.Nat.{_%_, _≤_, _<_, min};
+ghost use mathlib.Core.List.{_++_};
+ghost use Prim.Native.Nat.{_+_, _*_, _%_, _≤_, _<_, min};
+ghost use lib.ListN.{length};
+ghost use Rattle.section.specs.Layout.{over};
+ghost use Rattle.section.specs.Names.{listed};
+ghost use Rattle.tree.specs.Carrying.{uncarried};
 ghost use Rattle.tree.specs.Calls.{Calls, Keeps};
+ghost use Rattle.tree.specs.Stream.{written, layout, size as sizeOf, names as namesOf};
 ghost use Rattle.tree.specs.Tree as on;
 ghost use Rattle.tree.specs.Tree.{Tree, State, Sound, Lawful};
+use fault::Fault;
+use section::names::NamesBefore;
 
 // A device, or a bus of two nodes.
 pub trait Node {
@@ -74,4 +82,25 @@ pub trait Node {
     // The line of leaf k as bit k, for the first sixteen leaves.
     fn lines(&self) -> u16
         ensures { λ r. ⌜ r ≡ on.lines model (state (now (self .entry))) % 65536 ⌝ };
+
+    // Why an edition does not carry the state, by the first leaf whose state it does not carry. `first` leaves stand before
+    // the tree.
+    fn refusal(&self, first: u8, edition: u32) -> Option<Fault>
+        requires { ⌜ first + on.leaves model ≤ 16 ⌝ }
+        ensures { λ r. ⌜ r ≡ uncarried model first edition (state (now (self .entry))) ⌝ };
+
+    // How many bytes the sections have, which the leaves before do not change.
+    fn sections_size(&self, edition: u32) -> usize
+        requires { ⌜ on.leaves model ≤ 16 ⌝ }
+        ensures value { λ r. ⌜ r ≡ sizeOf model (written model edition (state (now (self .entry)))) ⌝ }
+        ensures bound { λ r. ⌜ r ≤ 10000 * on.leaves model ⌝ };
+
+    // Writes a section for each leaf to the front of a buffer, and adds the leaves' names to those before.
+    fn write_sections(&self, edition: u32, before: &mut NamesBefore, out: &mut [u8]) -> usize
+        requires few { ⌜ length (listed (now before)) + on.leaves model ≤ 16 ⌝ }
+        requires room { ⌜ sizeOf model (written model edition (state (now self))) ≤ length (now out) ⌝ }
+        ensures count { λ r. ⌜ r ≡ length (layout model (listed (now (before .entry))) (written model edition (state (now (self .entry))))) ⌝ }
+        ensures size { λ r. ⌜ r ≡ sizeOf model (written model edition (state (now (self .entry)))) ⌝ }
+        ensures buffer { λ _. ⌜ now (out .exit) ≡ over (layout model (listed (now (before .entry))) (written model edition (state (now (self .entry))))) (now (out .entry)) ⌝ }
+        ensures names { λ _. ⌜ listed (now (before .exit)) ≡ listed (now (before .entry)) ++ namesOf model ⌝ };
 }

@@ -2,13 +2,15 @@
 use mathlib.Core.Path.{_≡_, refl, sym, ap, _∙_}
 use mathlib.Core.Bool.{Bool, true, false, not, cond}
 use mathlib.Core.List.{List, [], _∷_}
-use Prim.Native.Nat.{ℕ, zero, suc, _+_, _≤_}
+use Prim.Native.Nat.{ℕ, zero, suc, _+_, _≤_, _<_}
 use native.Mathlib.Omega.{arith}
 use lib.Dec.{leb, eqb}
-use lib.ListN.{length, getD, replicate}
+use lib.ListN.{length, getD, drop, replicate}
+use mir.Val.{boolByte}
 use Rattle.std.specs.declared.option.Option.{Option}
 use Rattle.std.specs.declared.option.Option.the-variants.{Some, None}
-use Rattle.std.proofs.shelf.Tests.{false≢true, and-from, and-parts, eq-eqb, eqb-true, leb-true, not-false}
+use Rattle.std.proofs.shelf.Lists.{at-drop-more, at-drop-all}
+use Rattle.std.proofs.shelf.Tests.{false≢true, and-from, and-parts, eq-eqb, ne-eqb, eqb-true, leb-true, not-false}
 use Rattle.device.specs.Bytes.{flag, same, differs}
 use Rattle.uart.specs.Stream.{within, zeros}
 
@@ -19,6 +21,10 @@ flag-one false = refl
 pub flag-le : (b : Bool) → leb (flag b) 1 ≡ true
 flag-le true = refl
 flag-le false = refl
+
+pub flag-byte : (b : Bool) → boolByte b ≡ flag b
+flag-byte true = refl
+flag-byte false = refl
 
 pub one-flag : (n : ℕ) → n ≤ 1 → flag (eqb n 1) ≡ n
 one-flag zero h = refl
@@ -62,3 +68,15 @@ zeros-all k [] h = refl
 zeros-all k (x ∷ xs) h =
     let p = chosen (eqb x 0) k (zeros (k + 1) xs) h in
     λ i. eqb-true x 0 (p .0) i ∷ zeros-all (k + 1) xs (p .1) i
+
+-- the fields from place i on, one by one
+module _ (i : ℕ) (xs : List ℕ) where
+  pub zeros-more : i < length xs → getD xs i 0 ≡ 0 → zeros i (drop i xs) ≡ zeros (i + 1) (drop (i + 1) xs)
+  zeros-more h e = at-drop-more (zeros i) xs i 0 h ∙ ap (λ x. cond (eqb x 0) (zeros (i + 1) (drop (i + 1) xs)) (Some i)) e
+
+  pub zeros-stop : i < length xs → (getD xs i 0 ≡ 0 → ⊥) → zeros i (drop i xs) ≡ Some i
+  zeros-stop h n =
+      at-drop-more (zeros i) xs i 0 h ∙ ap (λ t. cond t (zeros (i + 1) (drop (i + 1) xs)) (Some i)) (ne-eqb (getD xs i 0) 0 n)
+
+  pub zeros-end : length xs ≤ i → zeros i (drop i xs) ≡ None
+  zeros-end h = at-drop-all (zeros i) xs i h

@@ -15,7 +15,7 @@ use Rattle.uart.specs.Uart.{kind, Sound}
 use Rattle.uart.specs.Stream.{numbered, sub, default, format}
 use Rattle.uart.specs.declared.state.UartState.{UartState}
 use Rattle.uart.proofs.Numbers.{numbers}
-use Rattle.uart.proofs.Padded.{padded-size}
+use Rattle.uart.proofs.Padded.{capacity-le, padded-size}
 
 -- a test of each number of a list
 abbrev each : (ℕ → Bool) → List ℕ → Bool
@@ -47,7 +47,7 @@ apart (suc j) (suc k) h l e = omega arith
 sub-size : (s : UartState) → Sound s → (k : ℕ) → k < count format → length (sub (numbered k) s) ≡ subSize format k
 sub-size s h =
     numbers (λ k. length (sub (numbered k) s) ≡ subSize format k)
-    (ap (λ n. suc (suc n)) (padded-size (s .queue) (s .fe) (h .queue)))
+    (ap (λ n. suc (suc n)) (padded-size (s .queue) (omega (arith, h .queue, capacity-le (s .fe)))))
     refl
 
 default-size : (b : List ℕ) (k : ℕ) → k < count format → length (default (numbered k) b) ≡ subSize format k

@@ -6,6 +6,7 @@ mod Form
 mod Lawful
 mod Numbers
 mod Padded
+mod Places
 mod Rings
 mod Subsections
 mod Written

@@ -1,7 +1,7 @@
 -- How the states of the serial port travel: its body, its subsections, its editions.
-use mathlib.Core.List.{List, [], _∷_, _++_}
+use mathlib.Core.List.{List, [], _∷_}
 use mathlib.Core.Bool.{Bool, not, cond, _&&_}
-use Prim.Native.Nat.{ℕ, _+_, _-_}
+use Prim.Native.Nat.{ℕ, _+_}
 use lib.Chars.{codes}
 use lib.Dec.{leb, eqb}
 use lib.ListN.{length, getD, take, drop, replicate}
@@ -10,6 +10,7 @@ use Rattle.std.specs.declared.option.Option.the-variants.{Some, None}
 use Rattle.std.specs.Options.{isSome}
 use Rattle.device.specs.Bytes.{bit, flag}
 use Rattle.device.specs.Format.{Edition, Section, Subsection, Format}
+use Rattle.uart.specs.Ring.{padded}
 use Rattle.uart.specs.Uart.{capacity}
 use Rattle.uart.specs.declared.state.UartState.{UartState}
 use Rattle.uart.specs.declared.state.UartSubsection.{UartSubsection}
@@ -39,19 +40,19 @@ checkBody b =
 
 -- ## The subsections
 
--- a subsection by its number
+-- a subsection by its number, and its number
 abbrev pub numbered : ℕ → UartSubsection
 numbered k = cond (eqb k 0) Fifo Latch
+
+abbrev pub number : UartSubsection → ℕ
+number Fifo = 0
+number Latch = 1
 
 abbrev pub subsections : List Subsection
 subsections =
     record { title = codes "uart/fifo"; fields = replicate 18 1 }
     ∷ record { title = codes "uart/latch"; fields = 1 ∷ [] }
     ∷ []
-
--- a queue in 16 bytes, the oldest first, 0 beyond them
-abbrev pub padded : List ℕ → List ℕ
-padded q = q ++ replicate (16 - length q) 0
 
 -- FE, count, bytes; TI
 abbrev pub sub : UartSubsection → UartState → List ℕ

@@ -29,13 +29,13 @@ impl Uart {
             queue: Queue::new(),
         }
     }
+}
 
-    // How many bytes the queue holds.
-    fn capacity(&self) -> usize
-        ensures { λ r. ⌜ r ≡ rules.capacity (now (self .entry) .fe) ⌝ }
-    {
-        if self.fe { 16 } else { 1 }
-    }
+// How many bytes the queue holds, by FE.
+pub(super) fn capacity(fe: bool) -> usize
+    ensures { λ r. ⌜ r ≡ rules.capacity fe ⌝ }
+{
+    if fe { 16 } else { 1 }
 }
 
 pub impl Device for Uart as UartDevice {
@@ -48,6 +48,10 @@ pub impl Device for Uart as UartDevice {
     fn closed() {}
 
     fn sound(&self) {}
+
+    fn name() -> &'static [u8] {
+        b"uart"
+    }
 
     fn width() -> u32 {
         8
@@ -95,7 +99,7 @@ pub impl Device for Uart as UartDevice {
     }
 
     fn feed(&mut self, byte: u8) {
-        if self.queue.len() < self.capacity() {
+        if self.queue.len() < capacity(self.fe) {
             self.queue.push(byte);
             return;
         }

@@ -12,7 +12,7 @@ use device::bits::bit;
 // Bits of the interrupt enable register.
 const RECEIVED_ENABLE: u8 = 0;
 
-const TRANSMITTER_ENABLE: u8 = 1;
+pub(super) const TRANSMITTER_ENABLE: u8 = 1;
 
 const OVERRUN_ENABLE: u8 = 2;
 

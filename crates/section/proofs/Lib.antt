@@ -1,0 +1,6 @@
+pub mod Comparing
+pub mod Counting
+pub mod Sizes
+pub mod Subsections
+pub mod Unknown
+pub mod Writes
