@@ -3,7 +3,7 @@ ghost use mathlib.Core.Path.{_≡_};
 ghost use Prim.Native.Nat.{_+_, _≤_};
 ghost use lib.ListN.{length};
 ghost use Rattle.device.specs.Bytes.{four};
-ghost use Rattle.section.specs.Layout.{over, identity};
+ghost use Rattle.section.specs.Layout.{over, times, identity};
 ghost use Rattle.section.specs.Names.{listed};
 use crate::names::NamesBefore;
 
@@ -26,6 +26,24 @@ pub fn put_number(number: u32, out: &mut [u8]) -> usize
     put(&number.to_be_bytes(), out)
 }
 
+// Writes the number of the leaf after these names.
+pub fn put_leaf_number(before: &NamesBefore, out: &mut [u8]) -> usize
+    requires { ⌜ 4 ≤ length (now out) ⌝ }
+    ensures count { λ r. ⌜ r ≡ 4 ⌝ }
+    ensures buffer { λ _. ⌜ now (out .exit) ≡ over (four (length (listed (now (before .entry))))) (now (out .entry)) ⌝ }
+{
+    put_number(before.number(), out)
+}
+
+// Writes how many of these names are that name.
+fn put_instance(before: &NamesBefore, name: &[u8], out: &mut [u8]) -> usize
+    requires { ⌜ 4 ≤ length (now out) ⌝ }
+    ensures count { λ r. ⌜ r ≡ 4 ⌝ }
+    ensures buffer { λ _. ⌜ now (out .exit) ≡ over (four (times (now (name .entry)) (listed (now (before .entry))))) (now (out .entry)) ⌝ }
+{
+    put_number(before.instance(name), out)
+}
+
 // Writes the identity of the leaf after these names.
 pub fn put_identity(before: &NamesBefore, name: &[u8], out: &mut [u8]) -> usize
     requires name { ⌜ length (now name) ≤ 16 ⌝ }
@@ -34,9 +52,9 @@ pub fn put_identity(before: &NamesBefore, name: &[u8], out: &mut [u8]) -> usize
     ensures size { λ r. ⌜ r ≡ 9 + length (now (name .entry)) ⌝ }
     ensures buffer { λ _. ⌜ now (out .exit) ≡ over (identity (listed (now (before .entry))) (now (name .entry))) (now (out .entry)) ⌝ }
 {
-    let mut n = put_number(before.number(), out);
+    let mut n = put_leaf_number(before, out);
     n += put(&[name.len() as u8], &mut out[n..]);
     n += put(name, &mut out[n..]);
-    n += put_number(before.instance(name), &mut out[n..]);
+    n += put_instance(before, name, &mut out[n..]);
     n
 }

@@ -8,6 +8,7 @@ ghost use Rattle.section.specs.Layout.{over, subsections, laid, size};
 ghost use Rattle.section.specs.Names.{listed};
 use crate::buffer::put;
 use crate::buffer::put_identity;
+use crate::buffer::put_leaf_number;
 use crate::buffer::put_number;
 use crate::marks;
 use crate::names::NamesBefore;
@@ -92,6 +93,6 @@ pub fn put_section<D: Movable>(
     n += put_body(device, version, &mut out[n..]);
     n += put_subsections(device, &mut out[n..]);
     n += put(&[marks::CLOSING], &mut out[n..]);
-    n += put_number(before.number(), &mut out[n..]);
+    n += put_leaf_number(before, &mut out[n..]);
     n
 }

@@ -35,8 +35,8 @@ returns g c =
     let subs = step (subsections f (needed f s)) refl body (c .put-subsections-n .ensures .count) (omega arith)
     (c .put-subsections-n .ensures .buffer) in
     let close = step (0x7e ∷ []) refl subs (c .put-n-2 .ensures .count) (omega arith) (c .put-n-2 .ensures .buffer) in
-    let end = step (four (length before)) (ap four (c .number .ensures)) close (c .put-number-n-2 .ensures .count) (omega arith)
-    (c .put-number-n-2 .ensures .buffer) in
+    let end = step (four (length before)) refl close (c .put-leaf-number-n .ensures .count) (omega arith)
+    (c .put-leaf-number-n .ensures .buffer) in
     let bytes = laid (g .D·Device .kind) f before (sectionBy f (c .args .edition) s) in
     let last = four (length before) in
     let parts = joined (identity before name) (four version) (f .body version s) (subsections f (needed f s)) last in
