@@ -90,7 +90,7 @@ fn of_device<W: fmt::Write>(fault: &Fault, f: &mut fmt::Formatter<W>) -> fmt::Re
     }
 }
 
-// A version or a body that is not taken.
+// A version or a field that is not taken.
 fn of_body<W: fmt::Write>(fault: &Fault, f: &mut fmt::Formatter<W>) -> fmt::Result {
     match *fault {
         Fault::Version {
@@ -117,23 +117,12 @@ fn of_body<W: fmt::Write>(fault: &Fault, f: &mut fmt::Formatter<W>) -> fmt::Resu
                 "field {field} of {part}, whose body is at byte {place}, has a value that no state has; save the board again"
             )
         }
-        Fault::NotNeeded {
-            section,
-            subsection,
-            place,
-        } => {
-            let part = Part(Some(section), Some(subsection));
-            write!(
-                f,
-                "{part}, whose body is at byte {place}, says nothing but its defaults; save the board again"
-            )
-        }
-        _ => of_tag(fault, f),
+        _ => of_subsection(fault, f),
     }
 }
 
-// A tag, or what it opens or closes.
-fn of_tag<W: fmt::Write>(fault: &Fault, f: &mut fmt::Formatter<W>) -> fmt::Result {
+// A subsection that has no place here.
+fn of_subsection<W: fmt::Write>(fault: &Fault, f: &mut fmt::Formatter<W>) -> fmt::Result {
     match *fault {
         Fault::UnknownSubsection { section, place, .. } => {
             write!(
@@ -150,6 +139,36 @@ fn of_tag<W: fmt::Write>(fault: &Fault, f: &mut fmt::Formatter<W>) -> fmt::Resul
             write!(
                 f,
                 "subsection {subsection} of section {section}, named at byte {place}, comes twice or too late; save the board again"
+            )
+        }
+        Fault::NotNeeded {
+            section,
+            subsection,
+            place,
+        } => {
+            let part = Part(Some(section), Some(subsection));
+            write!(
+                f,
+                "{part}, whose body is at byte {place}, says nothing but its defaults; save the board again"
+            )
+        }
+        _ => of_section(fault, f),
+    }
+}
+
+// What opens or closes a section.
+fn of_section<W: fmt::Write>(fault: &Fault, f: &mut fmt::Formatter<W>) -> fmt::Result {
+    match *fault {
+        Fault::SectionType { place, found, .. } => {
+            write!(
+                f,
+                "byte {place} is {found}, where a section begins with 4 and the stream ends with 0; load it into a board of its tree"
+            )
+        }
+        Fault::Identity { section, place } => {
+            write!(
+                f,
+                "section {section} is of another leaf, by its identity at byte {place}; load it into a board of its tree"
             )
         }
         Fault::Tag {
@@ -176,7 +195,7 @@ fn of_tag<W: fmt::Write>(fault: &Fault, f: &mut fmt::Formatter<W>) -> fmt::Resul
     }
 }
 
-// The stream as a whole; every other fault has been said.
+// The stream as a whole. Every other fault has been said.
 fn of_stream<W: fmt::Write>(fault: &Fault, f: &mut fmt::Formatter<W>) -> fmt::Result {
     match *fault {
         Fault::EndOfStream {
@@ -190,20 +209,14 @@ fn of_stream<W: fmt::Write>(fault: &Fault, f: &mut fmt::Formatter<W>) -> fmt::Re
                 "the stream ends inside {part}, in the item at byte {place}; load all of it"
             )
         }
-        Fault::Header => write!(f, "these bytes do not begin as a stream does"),
-        Fault::Configuration => write!(f, "at byte 8, this is not the stream of a panel"),
-        Fault::SectionType { place, found, .. } => {
-            write!(
-                f,
-                "byte {place} is {found}, where a section begins with 4 and the stream ends with 0; load it into a board of its tree"
-            )
-        }
-        Fault::Identity { section, place } => {
-            write!(
-                f,
-                "section {section} is of another leaf, by its identity at byte {place}; load it into a board of its tree"
-            )
-        }
+        Fault::Header => write!(
+            f,
+            "these bytes do not begin as a stream does; load what a save wrote"
+        ),
+        Fault::Configuration => write!(
+            f,
+            "the configuration at byte 8 is not a panel's; load what a panel saved"
+        ),
         Fault::TrailingBytes { place } => {
             write!(
                 f,
