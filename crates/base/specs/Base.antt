@@ -1,5 +1,4 @@
 -- The base board: a bus of a serial port, at addresses 0 to 7, and a clock, at 8 and 9.
-use Rattle.board.specs.declared.incoming.Incoming.{Incoming}
 use Rattle.board.specs.declared.running.Running.{Running}
 use Rattle.tree.specs.Tree.{Tree, leaf, bus, State}
 use Rattle.tree.specs.declared.bus.Bus.{Bus}
@@ -30,7 +29,3 @@ calls =
 -- the state of the devices of a running base board
 abbrev pub devices : Running (Bus (Leaf Uart) (Leaf Rtc)) → State base
 devices b = (view b.tree.left.device, b.tree.right.device.state)
-
--- the state of the devices of an incoming base board
-abbrev pub waiting : Incoming (Bus (Leaf Uart) (Leaf Rtc)) → State base
-waiting b = (view b.tree.left.device, b.tree.right.device.state)

@@ -1,9 +1,8 @@
 // The base board, which every panel has: a serial port at addresses 0 to 7 and a clock at 8 and 9.
 ghost use Rattle.std.specs.Prelude.{◌≡◌};
-ghost use Rattle.base.specs.Base.{base, devices, waiting};
+ghost use Rattle.base.specs.Base.{base, devices};
 ghost use Rattle.tree.specs.Tree.{fresh};
 
-use board::incoming::Incoming;
 use board::running::Running;
 use rtc::Rtc;
 use tree::bus::Bus;
@@ -18,16 +17,6 @@ pub fn base_board() -> Running<BaseTree>
     ensures { devices result ≡ fresh base }
 {
     match Running::new(Bus::new(Leaf::new(Uart::new()), Leaf::new(Rtc::new()))) {
-        Ok(board) => board,
-        Err(_) => unreachable(),
-    }
-}
-
-// A base board that waits for a stream, every device fresh.
-pub fn incoming_base_board() -> Incoming<BaseTree>
-    ensures { waiting result ≡ fresh base }
-{
-    match Incoming::new(Bus::new(Leaf::new(Uart::new()), Leaf::new(Rtc::new()))) {
         Ok(board) => board,
         Err(_) => unreachable(),
     }

@@ -1,5 +1,2 @@
 pub mod Judging
 pub mod Streams
-pub mod Tests
-pub mod Loads
-pub mod Opening

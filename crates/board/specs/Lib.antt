@@ -1,3 +1,2 @@
 pub mod Guest
 pub mod Saving
-pub mod Loading

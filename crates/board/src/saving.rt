@@ -8,9 +8,9 @@ ghost use Rattle.tree.specs.Tree.{leaves};
 use crate::running::MOST_LEAVES;
 use fault::Fault;
 use section::buffer::put;
+use section::marks;
 use section::names::NamesBefore;
 use tree::node::Node;
-use wire::marks;
 
 // The highest edition.
 const LATEST: u32 = 3;
@@ -19,7 +19,7 @@ const LATEST: u32 = 3;
 const FRAME: usize = marks::HEADER.len() + marks::CONFIGURATION.len() + 1;
 
 // Refuses a tree of more leaves than a board has.
-pub(crate) fn few_leaves<T: Node>() -> Result<(), Fault>
+fn few_leaves<T: Node>() -> Result<(), Fault>
     ensures { result ≡ sized T.Node.model (Ok tt) }
 {
     let leaves = T::leaves();
@@ -32,7 +32,7 @@ pub(crate) fn few_leaves<T: Node>() -> Result<(), Fault>
 }
 
 // Refuses an edition that there is not.
-pub(crate) fn served(edition: u32) -> Result<(), Fault>
+fn served(edition: u32) -> Result<(), Fault>
     ensures { result ≡ served_at edition (Ok tt) }
 {
     if edition < 1 || edition > LATEST {

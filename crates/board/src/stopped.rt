@@ -5,7 +5,6 @@ ghost use Rattle.tree.specs.Tree.{leaves};
 
 use crate::running::Running;
 use crate::saving::save;
-use crate::sent::Sent;
 use crate::slip::PauseSlip;
 use fault::Fault;
 use tree::node::Node;
@@ -32,14 +31,5 @@ impl<T: Node> Stopped<T> {
         slip.spend();
         let Stopped { tree } = self;
         Running { tree }
-    }
-
-    // The board goes on elsewhere, from a stream that was saved of it.
-    pub fn hand_over(self, slip: PauseSlip) -> Sent<T>
-        ensures { result.tree ≡ self.tree }
-    {
-        slip.spend();
-        let Stopped { tree } = self;
-        Sent { tree }
     }
 }

@@ -1,11 +1,9 @@
 // A script from beginning to end, line by line.
-use crate::replay::{Beside, replay};
-use crate::reply::Reply;
 use crate::session::Session;
 use anyhow::anyhow;
-use script::line::{Command, read_line};
+use script::line::read_line;
 use std::io::{BufRead, BufReader};
-use std::{env, fs, io};
+use std::{env, fs};
 
 // Carries out one line, and prints it with its reply.
 fn obey(rt: &HostRuntime, session: &mut Session, at: u64, line: &str) -> anyhow::Result<()> {
@@ -14,42 +12,10 @@ fn obey(rt: &HostRuntime, session: &mut Session, at: u64, line: &str) -> anyhow:
         Ok(None) => return Ok(()),
         Err(mistake) => return Err(anyhow!(format!(in rt.alloc(); "line {at}: {mistake}")?)),
     };
-    let done = match command {
-        Command::Replay {
-            path,
-            first,
-            second,
-        } => match replay(rt, session, path, first, second) {
-            Ok(lines) => Ok(shown(rt, lines.as_slice())?),
-            Err(trouble) => Err(trouble),
-        },
-        _ => session.perform(rt, command),
-    };
-    match done {
+    match session.perform(rt, command) {
         Ok(reply) => Ok(println!(rt; "{command} -> {reply}")?),
         Err(trouble) => Err(anyhow!(format!(in rt.alloc(); "line {at}: {trouble}")?)),
     }
-}
-
-// Prints the answers of two boards side by side, and counts those that are alike.
-fn shown(rt: &HostRuntime, lines: &[Beside]) -> io::Result<Reply> {
-    let mut alike = 0usize;
-    for line in lines {
-        let Beside {
-            call,
-            first,
-            second,
-        } = *line;
-        if first == second {
-            alike = alike.saturating_add(1);
-        }
-        let call = Command::Guest(call);
-        println!(rt; "    {call} -> {first} | {second}")?;
-    }
-    Ok(Reply::Compared {
-        alike,
-        otherwise: lines.len().saturating_sub(alike),
-    })
 }
 
 fn obey_file(rt: &HostRuntime, session: &mut Session, path: &str) -> anyhow::Result<()> {

@@ -3,21 +3,17 @@ use board::call::Answer;
 use fault::Fault;
 use std::fmt;
 
-#[derive(Clone, Copy, PartialEq)]
+#[derive(Clone, Copy)]
 pub enum Reply {
     // The state that the board at hand is in.
     Running,
     Stopped,
-    Incoming,
-    Sent,
     Answered(Answer),
     // The stream's length.
     Saved(usize),
     Refused(Fault),
     // The board's state does not name the call.
     NotAdmitted,
-    // How many calls two boards have answered alike, and how many otherwise.
-    Compared { alike: usize, otherwise: usize },
 }
 
 impl fmt::Display for Reply {
@@ -25,8 +21,6 @@ impl fmt::Display for Reply {
         match *self {
             Reply::Running => write!(f, "running"),
             Reply::Stopped => write!(f, "stopped"),
-            Reply::Incoming => write!(f, "incoming"),
-            Reply::Sent => write!(f, "sent"),
             Reply::Answered(Answer::Byte(byte)) => write!(f, "{byte:#04x}"),
             Reply::Answered(Answer::Written(Some(byte))) => write!(f, "out {byte:#04x}"),
             Reply::Answered(Answer::Written(None)) => write!(f, "none"),
@@ -34,9 +28,6 @@ impl fmt::Display for Reply {
             Reply::Answered(Answer::Lines(lines)) => write!(f, "{lines:#04x}"),
             Reply::Saved(length) => write!(f, "{length} bytes"),
             Reply::NotAdmitted => write!(f, "not admitted"),
-            Reply::Compared { alike, otherwise } => {
-                write!(f, "{alike} answered alike, {otherwise} otherwise")
-            }
             Reply::Refused(fault) => {
                 let numbers = fault.numbers();
                 write!(f, "fault {numbers}: {fault}")

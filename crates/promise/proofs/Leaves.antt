@@ -1,24 +1,22 @@
 -- A leaf's section, as one edition writes it and another reads it.
-use Rattle.std.proofs.Common.{◌≡◌, ℕ, zero, suc, ◌+◌, ◌<◌, ◌≤◌, Bool, true, false, ◌⊎◌, List, [], ◌∷◌, ◌++◌, length, None, refl, ap, ◌∙◌, subst, inl, inr, arith}
-use Rattle.std.specs.List.{AllByRecursion as All}
+use Rattle.std.proofs.Common.{◌≡◌, ℕ, zero, suc, ◌+◌, ◌<◌, ◌≤◌, Bool, true, false, ◌⊎◌, List, ◌++◌, length, None, refl, ap, ◌∙◌, subst, inl, inr, arith}
 use Rattle.std.proofs.lemmas.Bool.{cases_Bool, both_ways}
 use Rattle.device.specs.Bytes.{differs}
 use Rattle.device.specs.Kind.{Kind}
-use Rattle.device.specs.Format.{Format, Section, latest, Served, Takes, taken, SubPasses, count, title, needs, section_by}
+use Rattle.device.specs.Format.{Format, Section, latest, Served, Takes, taken, SubPasses, count, title, needs, needed, section_by}
 use Rattle.device.specs.Obligations.{Obligations}
 use Rattle.tree.specs.Tree.{Tree, leaf, State, Sound, Lawful, Carried}
 use Rattle.fault.specs.declared.Fault.{Fault}
 use Rattle.fault.specs.declared.Fault.TheVariants as fault
 use Rattle.fault.specs.Numbers.{numbers_of}
 use Rattle.section.specs.Layout.{laid}
-use Rattle.wire.specs.Items.{refused}
+use Rattle.reading.specs.Items.{refused}
 use Rattle.reading.specs.Reading.{section}
-use Rattle.streams.specs.Accepting.{Admits}
-use Rattle.streams.proofs.Steps.{all_split}
-use Rattle.streams.proofs.Subs.{AllKnown, FirstUnknown, all_known}
-use Rattle.streams.proofs.Framed.{takes-taken, taken-takes, off-version, off-section}
+use Rattle.reading.specs.Accepting.{Admits}
+use Rattle.reading.proofs.Subs.{AllKnown, Unknowns, unknown, all_known}
+use Rattle.reading.proofs.Framed.{takes-taken, taken-takes, off-version, off-section}
 use Rattle.promise.specs.Editions.{Agrees, AtOdds}
-use Rattle.promise.proofs.Needed.{needed-order, all-needed}
+use Rattle.promise.proofs.Needed.{needed-order, all-needed, in-needed, is-first}
 
 -- edition e writes a sound state that it carries, and edition e' reads it
 pub record Sending (t : Tree) (e e' : ℕ) (s : State t) : Type 0 where
@@ -78,27 +76,18 @@ module _ {S : Type 0} (kind : Kind S) (f : Format S) (e e' : ℕ) (s : S) (sendi
         needed = ap (λ (b : List ℕ). differs (f.sub k s) (f.default k b)) sending.carried.absent ∙ need;
       }
 
-  -- each subsection passes, if e' knows it
-  abbrev PassKnown : List (ℕ × List ℕ) → Type 0
-  PassKnown ps = All (λ p. knows p.0 ≡ true → Pass p) ps
-
-  pass-known : Takes f e' v → PassKnown x.subs
-  pass-known takes = all-needed f s (λ p. knows p.0 ≡ true → Pass p) (sub-passes takes)
-
-  all_pass : (ps : List (ℕ × List ℕ)) → PassKnown ps → AllKnown knows ps → All Pass ps
-  all_pass [] h known = tt
-  all_pass (p ∷ ps) h known = (h.0 known.0, all_pass ps h.1 known.1)
-
-  pub admits-written : Agrees f e' x → Admits f e' x
+  pub admits-written : Agrees e e' f s → Admits f e' x
   admits-written h =
       record {
         takes = h.takes;
-        knows = h.knows;
+        knows = all-needed f s (λ p. knows p.0 ≡ true) 0 (count f) (λ j l m. h.knows j (omega arith));
         passes = record {
           long = ob.formed.body-size v s sending.sound;
           checked = checked h.takes;
-          order = needed-order f s;
-          subs = all_pass x.subs (pass-known h.takes) h.knows;
+          order = needed-order f s 0 (count f) (omega arith);
+          subs =
+              all-needed f s Pass 0 (count f)
+              (λ j l m need. sub-passes h.takes j (omega arith) need (h.knows j (omega arith) need));
         };
       }
 
@@ -108,55 +97,60 @@ module _ {S : Type 0} (kind : Kind S) (f : Format S) (e e' : ℕ) (s : S) (sendi
     pub is : section kind f before e' at (laid kind f before x ++ rest) ≡ refused fault
     pub layer : (numbers_of fault).layer ≡ 3
     pub section : (numbers_of fault).section ≡ length before
-    pub odds : AtOdds f e' x (numbers_of fault)
+    pub odds : AtOdds e e' f s (numbers_of fault)
 
   module _ (before : List (List ℕ)) (at : ℕ) (rest : List ℕ) (few : length before < 4294967296) where
     odd-version : taken f e' v ≡ false → Refused before at rest
     odd-version other =
         let o = off-version kind f ob.formed.apart before few e' x at rest small other in
-        let untaken : Takes f e' v → ⊥ = λ t. both_ways (taken f e' v) other (takes-taken f e' v t) in
+        let odd : Takes f e' v → ⊥ = λ t. both_ways (taken f e' v) other (takes-taken f e' v t) in
         record {
           fault = fault.Version (length before) None o.place v;
           is = o.is;
           layer = refl;
           section = refl;
-          odds = inl (record { untaken = untaken; number = refl; subsection = refl; detail = refl });
+          odds = inl (record { odd = odd; number = refl; subsection = refl; detail = refl });
         }
 
-    odd-subsection : Takes f e' v → FirstUnknown knows x.subs → Refused before at rest
+    odd-subsection : Takes f e' v → Unknowns knows (needed f s) → Refused before at rest
     odd-subsection takes un =
-        let pass = subst PassKnown un.is (pass-known takes) in
-        let before-odd = (all_split (λ p. knows p.0 ≡ true → Pass p) un.before (un.own ∷ un.after) pass).0 in
+        let k = unknown knows (needed f s) un in
+        let u = is-first f s knows 0 (count f) un in
+        let passes =
+        all-needed f s (λ p. knows p.0 ≡ true → Pass p) 0 (count f) (λ j l m need. sub-passes takes j (omega arith) need) in
         let o =
         off-section kind f ob.formed.apart before few e' x at rest small takes
-        (ob.formed.body-size v s sending.sound) (checked takes) (needed-order f s) un
-        (all_pass un.before before-odd un.known) in
+        (ob.formed.body-size v s sending.sound) (checked takes) (needed-order f s 0 (count f) (omega arith)) un passes in
         record {
-          fault = fault.UnknownSubsection (length before) o.place (length (title f un.own.0));
+          fault = fault.UnknownSubsection (length before) o.place (length (title f k));
           is = o.is;
           layer = refl;
           section = refl;
           odds = inr (record {
             takes = takes;
-            before = un.before;
-            odd = un.own;
-            after = un.after;
-            order = un.is;
-            known = un.known;
-            unknown = un.unknown;
+            k = k;
+            low = let l = u.high in omega arith;
+            needed = u.needed;
+            unknown = u.unknown;
+            first = λ j l. u.first j (omega arith) l;
             number = refl;
             subsection = refl;
             detail = refl;
           });
         }
 
-    -- a section agrees with e', or it is refused
-    pub judge-leaf : Agrees f e' x ⊎ Refused before at rest
-    judge-leaf = go (cases_Bool (taken f e' v)) (all_known knows x.subs)
+    -- a leaf agrees with e', or its section is refused
+    pub judge-leaf : Agrees e e' f s ⊎ Refused before at rest
+    judge-leaf = go (cases_Bool (taken f e' v)) (all_known knows (needed f s))
       where
         go :
-            (taken f e' v ≡ true) ⊎ (taken f e' v ≡ false) → AllKnown knows x.subs ⊎ FirstUnknown knows x.subs
-            → Agrees f e' x ⊎ Refused before at rest
+            (taken f e' v ≡ true) ⊎ (taken f e' v ≡ false) → AllKnown knows (needed f s) ⊎ Unknowns knows (needed f s)
+            → Agrees e e' f s ⊎ Refused before at rest
         go (inr other) r = inr (odd-version other)
         go (inl takes) (inr un) = inr (odd-subsection (taken-takes f e' v takes) un)
-        go (inl takes) (inl all) = inl (record { takes = taken-takes f e' v takes; knows = all })
+        go (inl takes) (inl all) =
+            inl (record {
+              takes = taken-takes f e' v takes;
+              knows = λ k low need.
+                  in-needed f s (λ p. knows p.0 ≡ true) 0 (count f) k (omega arith) (omega arith) need all;
+            })

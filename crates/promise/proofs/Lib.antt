@@ -3,6 +3,6 @@ pub mod Leaves
 pub mod Odds
 pub mod Moving
 pub mod Carrying
-pub mod Writing
+pub mod Tests
 pub mod Runs
 pub mod Promised

@@ -8,9 +8,7 @@ use Rattle.fault.specs.declared.Fault.{Fault}
 use Rattle.fault.specs.declared.Fault.TheVariants as fault
 use Rattle.fault.specs.Numbers.{numbers_of}
 use Rattle.tree.specs.Stream.{written, stream}
-use Rattle.board.specs.Loading.{loading}
-use Rattle.board.proofs.Tests.{no-edition}
-use Rattle.board.proofs.Loads.{load-takes, load-refuses}
+use Rattle.promise.specs.Loading.{loading}
 use Rattle.promise.specs.Board.{Board, stopped, incoming, Call, OfStopped, Save, Load, Answer, Done, Saved, Refused}
 use Rattle.promise.specs.Board.{saved, loaded, step, admitted}
 use Rattle.promise.specs.Editions.{placed}
@@ -19,12 +17,10 @@ use Rattle.promise.proofs.Leaves.{Sending}
 use Rattle.promise.proofs.Moving.{first-number, Accepted, Refused as TurnedAway, moves}
 use Rattle.tree.proofs.Carrying.{none-carried}
 use Rattle.promise.proofs.Carrying.{carriage}
-use Rattle.promise.proofs.Writing.{Wrote, wrote, comes-to-put}
+use Rattle.promise.proofs.Tests.{no-edition, Wrote, wrote, comes-to-put, load-takes, load-refuses}
 use Rattle.promise.proofs.Runs.{unchanged, untouched, sound, answers-append, left-append, admitted-append}
 
-saves-at :
-    (t : Tree) (c : Calls t) (s : State t) (buffer : List ℕ) → leaves t ≤ 16 → Carried t latest s
-    → Saves t c s (stream t latest s) buffer
+saves-at : (t : Tree) (c : Calls t) (s : State t) (buffer : List ℕ) → leaves t ≤ 16 → Carried t latest s → Saves t c s buffer
 saves-at t c s buffer few carried =
     let bytes = stream t latest s in
     let put = comes-to-put t s latest buffer few (record { low = omega arith; high = omega arith }) carried in
@@ -77,9 +73,7 @@ module _ (t : Tree) (c : Calls t) (lawful : Lawful t) (keeps : Keeps t c) where
       same_load : loading t e' (take n after) ≡ loading t e' (stream t e s)
       same_load = ap (loading t e') did.front
 
-      alike :
-          step t c incoming load ≡ (Done, stopped s) → (more : List Call)
-          → Alike t c b calls save (Saved n after) load more
+      alike : step t c incoming load ≡ (Done, stopped s) → (more : List Call) → Alike t c b calls save load (Saved n after) more
       alike took more =
           record {
             turns =
@@ -98,49 +92,38 @@ module _ (t : Tree) (c : Calls t) (lawful : Lawful t) (keeps : Keeps t c) where
             there = ap (λ (o : Answer × Board t). o.0 ∷ answers t c o.1 more) took;
           }
 
-      was-taken : Accepted e e' t s → Moves t c b calls s e e' save (Saved n after) (take n after)
+      was-taken : Accepted e e' t s → Moves t c b calls s e e' save load (Saved n after)
       was-taken r =
-          let state = load-takes t e' (stream t e s) (written t e s) _ _ s few reads r.is r.adopts in
+          let state = load-takes t e' few reads (stream t e s) (written t e s) _ _ s r.is r.adopts in
           let took : step t c incoming load ≡ (Done, stopped s) = ap (loaded t) (same_load ∙ state) in
           let done : answer t c incoming load ≡ Done = ap (λ (o : Answer × Board t). o.0) took in
-          record {
-            sections = written t e s;
-            writes = refl;
-            sends = did.front;
-            accepted = (λ _. r.agree, λ _. done);
-            alike = λ _. alike took;
-            turned = λ not. absurd (not done);
-          }
+          record { accepted = (λ _. r.agree, λ _. done); alike = λ _. alike took; turned = λ not. absurd (not done) }
 
-      was-turned : TurnedAway e e' t s → Moves t c b calls s e e' save (Saved n after) (take n after)
+      was-turned : TurnedAway e e' t s → Moves t c b calls s e e' save load (Saved n after)
       was-turned r =
           let F = r.fault in
-          let refusal = load-refuses t e' (stream t e s) F few reads r.is in
+          let refusal = load-refuses t e' few reads (stream t e s) F r.is in
           let met : step t c incoming load ≡ (Refused F, incoming) = ap (loaded t) (same_load ∙ refusal) in
           let refused : answer t c incoming load ≡ Refused F = ap (λ (o : Answer × Board t). o.0) met in
           let never : answer t c incoming load ≡ Done → ⊥ = λ h. refused-done F (sym refused ∙ h) in
           record {
-            sections = written t e s;
-            writes = refl;
-            sends = did.front;
             accepted = (λ h. absurd (never h), λ a. absurd (r.apart a));
             alike = λ h. absurd (never h);
             turned = λ _. (
               F,
               record {
                 refused = refused;
-                number = first-number e' (placed t (written t e s)) (numbers_of F).section (numbers_of F) r.first;
-                layer = r.layer;
-                first = r.first;
+                number = first-number e e' (placed t s) (numbers_of F).section (numbers_of F) r.odds.first;
+                odds = r.odds;
                 still = ap (λ (o : Answer × Board t). o.1) met;
               },
             );
           }
 
-      moves-on : Moves t c b calls s e e' save (Saved n after) (take n after)
+      moves-on : Moves t c b calls s e e' save load (Saved n after)
       moves-on = go (moves e e' t s few sending)
         where
-          go : Accepted e e' t s ⊎ TurnedAway e e' t s → Moves t c b calls s e e' save (Saved n after) (take n after)
+          go : Accepted e e' t s ⊎ TurnedAway e e' t s → Moves t c b calls s e e' save load (Saved n after)
           go (inl r) = was-taken r
           go (inr r) = was-turned r
 

@@ -1,24 +1,29 @@
 -- What calls leave as it was, what they keep sound, and one list of calls after another.
-use Rattle.std.proofs.Common.{◌≡◌, ℕ, Bool, true, false, cond, ◌&&◌, ltb, leb, ◌⊎◌, List, [], ◌∷◌, ◌++◌, Ok, Err, Result, sym, refl, ap, ◌∙◌, subst, inl, inr}
+use Rattle.std.proofs.Common.{◌≡◌, ℕ, ◌≤◌, Bool, true, false, cond, ◌&&◌, ltb, leb, ◌⊎◌, List, [], ◌∷◌, ◌++◌, Ok, Err, Result, sym, refl, ap, ◌∙◌, subst, inl, inr}
 use Rattle.std.specs.List.{AllByRecursion as All}
 use Rattle.std.proofs.lemmas.Bool.{false≢true, ltb-true, leb-true, and_parts}
 use Rattle.device.specs.Bytes.{Bytes}
+use Rattle.device.specs.Format.{Served, is_served}
 use Rattle.fault.specs.declared.Fault.{Fault}
-use Rattle.tree.specs.Tree.{Tree, State, Sound, Lawful, fresh, width, has_input}
+use Rattle.tree.specs.Tree.{Tree, State, Sound, Lawful, fresh, width, leaves, has_input}
 use Rattle.tree.specs.Calls.{Calls, Keeps}
+use Rattle.tree.specs.Stream.{Sections}
 use Rattle.board.specs.declared.call.Call.{Call as GuestCall}
 use Rattle.board.specs.declared.call.Call.TheVariants as guest
 use Rattle.board.specs.declared.call.Answer.{Answer as GuestAnswer}
 use Rattle.board.specs.declared.call.Answer.TheVariants as answer
 use Rattle.board.specs.Guest.{Outcome, answered, performing}
-use Rattle.board.specs.Saving.{saving}
-use Rattle.board.specs.Loading.{loading}
-use Rattle.board.proofs.Loads.{loads-again}
+use Rattle.board.specs.Saving.{tested, saving}
+use Rattle.reading.specs.Items.{Out, refused, got}
+use Rattle.reading.specs.Reading.{whole}
+use Rattle.reading.proofs.Whole.{returns}
+use Rattle.promise.specs.Loading.{taking, loading}
 use Rattle.promise.specs.Board.{Board, running, stopped, incoming, sent, RunningCall, Guest, Stop}
 use Rattle.promise.specs.Board.{StoppedCall, Save, Resume, HandOver, Call, OfRunning, OfStopped, Load, Answer, NotSaved}
 use Rattle.promise.specs.Board.{named, told, saved, loaded, on_running, on_stopped, step, run, admitted}
 use Rattle.promise.specs.Board.{GuestBytes, BringsBytes, refuses}
 use Rattle.promise.specs.Promise.{Made, SoundOn}
+use Rattle.promise.proofs.Tests.{served-is, adopting-some}
 
 -- ---- a refused call
 
@@ -92,12 +97,39 @@ module _ (t : Tree) (c : Calls t) where
 
 -- ---- sound states
 
+-- what a result gives, if anything, is P
+abbrev Gives : {A : Type 0} → (A → Type 0) → Result A Fault → Type 0
+Gives P (Ok a) = P a
+Gives P (Err F) = Unit {0}
+
+gives-tested :
+    {A : Type 0} (P : A → Type 0) (b : Bool) (F : Fault) (r : Result A Fault) → (b ≡ true → Gives P r)
+    → Gives P (tested b F r)
+gives-tested P b F r h = go b refl
+  where
+    go : (x : Bool) → b ≡ x → Gives P (tested x F r)
+    go true is = h is
+    go false is = tt
+
 module _ (t : Tree) (c : Calls t) (lawful : Lawful t) (keeps : Keeps t c) where
-  loaded-sound :
-      (e : ℕ) (bytes : List ℕ) → Bytes bytes → (r : Result (State t) Fault) → loading t e bytes ≡ r
-      → SoundOn t (loaded t r).1
-  loaded-sound e bytes bs (Ok s) is = (loads-again t e bytes lawful bs s is).1.sound
-  loaded-sound e bytes bs (Err F) is = tt
+  loaded-sound : (r : Result (State t) Fault) → Gives (Sound t) r → SoundOn t (loaded t r).1
+  loaded-sound (Ok s) h = h
+  loaded-sound (Err F) h = tt
+
+  taking-sound : (e : ℕ) (bytes : List ℕ) → leaves t ≤ 16 → Served e → Bytes bytes → Gives (Sound t) (taking t (whole t e bytes))
+  taking-sound e bytes few served bs = go (whole t e bytes) refl
+    where
+      go : (o : Out (Sections t)) → whole t e bytes ≡ o → Gives (Sound t) (taking t o)
+      go (refused F) is = tt
+      go (got x n rest) is =
+          let r = returns t lawful few e n bytes rest x served bs is in
+          subst (Gives (Sound t)) (sym (adopting-some t [] 18 x r.0 r.1.adopts)) r.1.sound
+
+  loading-sound : (e : ℕ) (bytes : List ℕ) → Bytes bytes → Gives (Sound t) (loading t e bytes)
+  loading-sound e bytes bs =
+      gives-tested (Sound t) (leb (leaves t) 16) _ _ λ few.
+      gives-tested (Sound t) (is_served e) _ _ λ served.
+      taking-sound e bytes (leb-true (leaves t) 16 few) (served-is e served) bs
 
   -- the devices are sound after an outcome
   abbrev SoundAfter : {A : Type 0} → Outcome A t → Type 0
@@ -136,7 +168,7 @@ module _ (t : Tree) (c : Calls t) (lawful : Lawful t) (keeps : Keeps t c) where
   step-sound (stopped s) (Load e bytes) w h = h
   step-sound incoming (OfRunning call) w h = h
   step-sound incoming (OfStopped call) w h = h
-  step-sound incoming (Load e bytes) w h = loaded-sound e bytes w (loading t e bytes) refl
+  step-sound incoming (Load e bytes) w h = loaded-sound (loading t e bytes) (loading-sound e bytes w)
   step-sound (sent s) call w h = h
 
   run_sound : (b : Board t) (calls : List Call) → All BringsBytes calls → SoundOn t b → SoundOn t (run t c b calls).1

@@ -9,7 +9,7 @@ use Rattle.board.specs.declared.call.Call.TheVariants as guest
 use Rattle.board.specs.declared.call.Answer.{Answer as GuestAnswer}
 use Rattle.board.specs.Guest.{Outcome, performing}
 use Rattle.board.specs.Saving.{saving}
-use Rattle.board.specs.Loading.{loading}
+use Rattle.promise.specs.Loading.{loading}
 
 -- a board with the state of its devices; those of an incoming board are fresh
 pub data Board (t : Tree) : Type 0 where

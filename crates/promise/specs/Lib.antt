@@ -1,3 +1,4 @@
+pub mod Loading
 pub mod Board
 pub mod Editions
 pub mod Promise

@@ -1,5 +1,7 @@
-pub mod Identities
-pub mod Finding
-pub mod Tables
-pub mod Entries
-pub mod Refusals
+pub mod Steps
+pub mod Titles
+pub mod Subs
+pub mod Framed
+pub mod Trees
+pub mod Whole
+pub mod Fitting

@@ -1,2 +1,3 @@
+pub mod Items
 pub mod Reading
-pub mod Parts
+pub mod Accepting

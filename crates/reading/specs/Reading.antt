@@ -1,13 +1,14 @@
--- How one leaf's section is read, left to right, and what refuses it.
-use Rattle.std.specs.Prelude.{ℕ, zero, suc, ◌+◌, Bool, cond, List, [], ◌∷◌, length, Some, None, Option, ◌==◌, nat_le}
+-- How a stream is read for a tree, left to right, and what refuses it.
+use Rattle.std.specs.Prelude.{ℕ, zero, suc, Bool, cond, List, [], ◌∷◌, ◌++◌, length, Some, None, Option, ◌==◌, nat_le}
 use Rattle.device.specs.Bytes.{same}
 use Rattle.device.specs.Kind.{Kind}
 use Rattle.device.specs.Format.{Format, Subsection, Section, count, body_size, sub_size, taken, is_needed}
-use Rattle.fault.specs.declared.Fault.{Fault}
+use Rattle.tree.specs.Tree.{Tree, leaf, bus}
 use Rattle.fault.specs.declared.Fault.TheVariants as fault
 use Rattle.section.specs.Layout.{identity}
-use Rattle.wire.specs.declared.due.Due.TheVariants.{TypeOf, TagOf}
-use Rattle.wire.specs.Items.{Out, refused, got, then, unless, passes, item, word, Token, Opened, Named, Closed, Ended, next}
+use Rattle.tree.specs.Stream.{names, Sections}
+use Rattle.reading.specs.Items.{Out, refused, got, then, unless, passes, item, word, heading, configured, ended}
+use Rattle.reading.specs.Items.{TypeOf, TagOf, LastType, Token, Opened, Named, Closed, Ended, next}
 
 -- the number of a name in a table whose first number is k
 abbrev pub find_from : ℕ → List Subsection → List ℕ → Option ℕ
@@ -95,19 +96,19 @@ section k f before e at bytes =
     then (closing n at₄ r₄) λ _ at₅ r₅.
     got (record { version = b.0; body = b.1; subs = ss }) at₅ r₅
 
--- ---- adopting
+abbrev pub sections : (t : Tree) → List (List ℕ) → ℕ → ℕ → List ℕ → Out (Sections t)
+sections (leaf k f) before e at bytes = section k f before e at bytes
+sections (bus l r) before e at bytes =
+    then (sections l before e at bytes) λ a at₁ rest.
+    then (sections r (before ++ names l) e at₁ rest) λ b at₂ rest₂.
+    got (a, b) at₂ rest₂
 
--- where the body stands of a section that begins at place `at`: behind its type, its identity and its version
-abbrev pub body_place : List (List ℕ) → List ℕ → ℕ → ℕ
-body_place before name at = at + 5 + length (identity before name)
-
--- what is adopted, or else a refusal
-abbrev pub or_else : {A : Type 0} → Option A → Fault → ℕ → List ℕ → Out A
-or_else (Some a) F at rest = got a at rest
-or_else None F at rest = refused F
-
--- the state that a leaf adopts its section as
-abbrev pub adoption : {S : Type 0} → Kind S → Format S → List (List ℕ) → ℕ → ℕ → List ℕ → Out S
-adoption k f before e at bytes =
-    then (section k f before e at bytes) λ x at₁ rest.
-    or_else (f.adopt x) (fault.NotAdopted (length before) (body_place before k.name at)) at₁ rest
+-- the sections of a whole stream, at edition e
+abbrev pub whole : (t : Tree) → ℕ → List ℕ → Out (Sections t)
+whole t e bytes =
+    then (heading 0 bytes) λ _ at₁ r₁.
+    then (configured at₁ r₁) λ _ at₂ r₂.
+    then (sections t [] e at₂ r₂) λ x at₃ r₃.
+    then (next LastType at₃ r₃) λ _ at₄ r₄.
+    then (ended at₄ r₄) λ _ at₅ r₅.
+    got x at₅ r₅

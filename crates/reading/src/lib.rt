@@ -1,6 +1,12 @@
-// One leaf's section of a stream: how it is read and checked, and how a device adopts it.
-mod frame;
-pub mod leaf;
-mod start;
-mod subsections;
-mod titles;
+// What holds of streams, whatever the tree.
+ghost use Rattle.reading.specs.Accepting.{Streams};
+
+use tree::node::Node;
+
+// A stream is accepted exactly where layout and checks allow it, is then adopted as a state that is written as that stream,
+// and has a greatest length.
+pub fn streams<N: Node>()
+    ensures { Streams N.Node.model }
+{
+    N::lawful();
+}

@@ -4,21 +4,12 @@ use crate::words::Words;
 use board::call::Call;
 use std::fmt;
 
-// How a board is made.
-#[derive(Clone, Copy)]
-pub enum Start {
-    Running,
-    // It waits for a stream.
-    Incoming,
-}
-
 // What a line asks for.
 #[derive(Clone, Copy)]
 pub enum Command<'a> {
-    // Makes a board of that name, and goes on with it.
+    // Makes a running board of that name, and goes on with it.
     Board {
         name: &'a str,
-        start: Start,
     },
     // Goes on with the board of that name.
     On {
@@ -33,19 +24,7 @@ pub enum Command<'a> {
         size: u32,
         path: &'a str,
     },
-    // Loads the stream in a file at an edition.
-    Load {
-        edition: u32,
-        path: &'a str,
-    },
     Resume,
-    HandOver,
-    // Performs the calls in a file on two boards, and compares the answers.
-    Replay {
-        path: &'a str,
-        first: &'a str,
-        second: &'a str,
-    },
 }
 
 // Reads a line: a command, or none where it is empty or only a comment.
@@ -61,10 +40,7 @@ pub fn read_line<'a>(line: &'a str) -> Result<Option<Command<'a>>, Mistake<'a>> 
         },
         "stop" => Command::Stop,
         "save" => save(&mut words)?,
-        "load" => load(&mut words)?,
         "resume" => Command::Resume,
-        "hand-over" => Command::HandOver,
-        "replay" => replay(&mut words)?,
         _ => Command::Guest(call(word, &mut words)?),
     };
     words.end()?;
@@ -74,16 +50,9 @@ pub fn read_line<'a>(line: &'a str) -> Result<Option<Command<'a>>, Mistake<'a>> 
 fn board<'a>(words: &mut Words<'a>) -> Result<Command<'a>, Mistake<'a>> {
     let name = words.word("the board's name")?;
     match words.next() {
-        Some("running") => Ok(Command::Board {
-            name,
-            start: Start::Running,
-        }),
-        Some("incoming") => Ok(Command::Board {
-            name,
-            start: Start::Incoming,
-        }),
+        Some("running") => Ok(Command::Board { name }),
         Some(word) => Err(Mistake::NotAState(word)),
-        None => Err(Mistake::Missing("`running` or `incoming`")),
+        None => Err(Mistake::Missing("`running`")),
     }
 }
 
@@ -92,21 +61,6 @@ fn save<'a>(words: &mut Words<'a>) -> Result<Command<'a>, Mistake<'a>> {
         edition: words.number("the edition")?,
         size: words.number("the size of the buffer")?,
         path: words.word("the file for the stream")?,
-    })
-}
-
-fn load<'a>(words: &mut Words<'a>) -> Result<Command<'a>, Mistake<'a>> {
-    Ok(Command::Load {
-        edition: words.number("the edition")?,
-        path: words.word("the file with the stream")?,
-    })
-}
-
-fn replay<'a>(words: &mut Words<'a>) -> Result<Command<'a>, Mistake<'a>> {
-    Ok(Command::Replay {
-        path: words.word("the file with the calls")?,
-        first: words.word("the first board's name")?,
-        second: words.word("the second board's name")?,
     })
 }
 
@@ -135,14 +89,7 @@ fn call<'a>(word: &'a str, words: &mut Words<'a>) -> Result<Call, Mistake<'a>> {
 impl fmt::Display for Command<'_> {
     fn fmt<W: fmt::Write>(&self, f: &mut fmt::Formatter<W>) -> fmt::Result {
         match *self {
-            Command::Board {
-                name,
-                start: Start::Running,
-            } => write!(f, "board {name} running"),
-            Command::Board {
-                name,
-                start: Start::Incoming,
-            } => write!(f, "board {name} incoming"),
+            Command::Board { name } => write!(f, "board {name} running"),
             Command::On { name } => write!(f, "on {name}"),
             Command::Guest(Call::Read { address }) => write!(f, "read {address}"),
             Command::Guest(Call::Write { address, byte }) => write!(
@@ -158,14 +105,7 @@ impl fmt::Display for Command<'_> {
                 size,
                 path,
             } => write!(f, "save {edition} {size} {path}"),
-            Command::Load { edition, path } => write!(f, "load {edition} {path}"),
             Command::Resume => write!(f, "resume"),
-            Command::HandOver => write!(f, "hand-over"),
-            Command::Replay {
-                path,
-                first,
-                second,
-            } => write!(f, "replay {path} {first} {second}"),
         }
     }
 }

@@ -28,10 +28,7 @@ impl fmt::Display for Mistake<'_> {
                 u32::MAX
             ),
             Mistake::NotAByte(word) => write!(f, "`{word}` is no byte: the greatest is 255"),
-            Mistake::NotAState(word) => write!(
-                f,
-                "a board is made `running` or `incoming`, not `{word}`"
-            ),
+            Mistake::NotAState(word) => write!(f, "a board is made `running`, not `{word}`"),
             Mistake::TooManyWords(word) => write!(f, "`{word}` is a word too many"),
         }
     }

@@ -1,6 +1,7 @@
 // One leaf's section of a stream: how it is written, how long it is, and why an edition cannot write it.
 pub mod buffer;
 pub mod carrying;
+pub mod marks;
 pub mod names;
 pub mod numbering;
 pub mod size;

@@ -26,17 +26,10 @@ impl NamesBefore {
     }
 
     // The number of the leaf that these names stand before.
-    pub fn leaf(&self) -> u8
-        ensures { result ≡ length (listed self.now) }
-    {
-        self.count as u8
-    }
-
-    // That number, as a stream has it.
     pub fn number(&self) -> u32
         ensures { result ≡ length (listed self.now) }
     {
-        u32::from(self.leaf())
+        self.count as u32
     }
 
     // How many leaves of a name stand before.

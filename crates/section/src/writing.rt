@@ -5,9 +5,9 @@ ghost use Rattle.section.specs.Layout.{over, subsections, laid, size};
 ghost use Rattle.section.specs.Names.{listed};
 
 use crate::buffer::{put, put_identity, put_leaf_number, put_number};
+use crate::marks;
 use crate::names::NamesBefore;
 use device::{Device, Movable};
-use wire::marks;
 
 // Writes the body of a version.
 fn put_body<D: Movable>(device: &D, version: u32, out: &mut [u8]) -> usize

@@ -1,4 +1,3 @@
 pub mod Carrying
 pub mod Lines
 pub mod Sections
-pub mod Beside

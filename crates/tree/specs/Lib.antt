@@ -2,4 +2,3 @@ pub mod Tree
 pub mod Calls
 pub mod Stream
 pub mod Carrying
-pub mod Reading

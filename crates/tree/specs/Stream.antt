@@ -2,8 +2,13 @@
 use Rattle.std.specs.Prelude.{ℕ, ◌+◌, List, [], ◌∷◌, ◌++◌}
 use Rattle.device.specs.Format.{Section, section_by}
 use Rattle.section.specs.Layout as section
-use Rattle.wire.specs.Marks.{header, configuration}
 use Rattle.tree.specs.Tree.{Tree, leaf, bus, State}
+
+abbrev pub header : List ℕ
+header = 0x51 ∷ 0x45 ∷ 0x56 ∷ 0x4d ∷ 0 ∷ 0 ∷ 0 ∷ 3 ∷ []
+
+abbrev pub configuration : List ℕ
+configuration = 7 ∷ 0 ∷ 0 ∷ 0 ∷ 5 ∷ 0x70 ∷ 0x61 ∷ 0x6e ∷ 0x65 ∷ 0x6c ∷ []
 
 -- the names of a tree's leaves
 abbrev pub names : Tree → List (List ℕ)

@@ -7,7 +7,6 @@ ghost use Rattle.tree.specs.Tree.{bus, leaves, lines, width};
 use crate::node::Node;
 use fault::Fault;
 use section::names::NamesBefore;
-use wire::reader::Reader;
 
 // The right tree's addresses and leaves follow those of the left.
 #[derive(Drop)]
@@ -144,24 +143,5 @@ impl<L: Node, R: Node> Node for Bus<L, R> {
     fn write_sections(&self, edition: u32, before: &mut NamesBefore, out: &mut [u8]) -> usize {
         let n = self.left.write_sections(edition, before, out);
         n + self.right.write_sections(edition, before, &mut out[n..])
-    }
-
-    fn check_sections(
-        edition: u32,
-        before: &mut NamesBefore,
-        reader: &mut Reader,
-    ) -> Result<(), Fault> {
-        L::check_sections(edition, before, reader)?;
-        R::check_sections(edition, before, reader)
-    }
-
-    fn adopt_sections(
-        &mut self,
-        edition: u32,
-        before: &mut NamesBefore,
-        reader: &mut Reader,
-    ) -> Result<(), Fault> {
-        self.left.adopt_sections(edition, before, reader)?;
-        self.right.adopt_sections(edition, before, reader)
     }
 }

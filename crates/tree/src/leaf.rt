@@ -6,12 +6,10 @@ ghost use Rattle.tree.specs.Tree.{leaf};
 use crate::node::Node;
 use device::{Device, Movable};
 use fault::Fault;
-use reading::leaf::{adopt_section, check_section};
 use section::carrying;
 use section::names::NamesBefore;
 use section::size::section_size;
 use section::writing::put_section;
-use wire::reader::Reader;
 
 #[derive(Drop)]
 pub struct Leaf<D> {
@@ -98,26 +96,5 @@ impl<D: Movable> Node for Leaf<D> {
         let n = put_section(&self.device, edition, before, out);
         before.push(D::name());
         n
-    }
-
-    fn check_sections(
-        edition: u32,
-        before: &mut NamesBefore,
-        reader: &mut Reader,
-    ) -> Result<(), Fault> {
-        check_section::<D>(edition, before, reader)?;
-        before.push(D::name());
-        Ok(())
-    }
-
-    fn adopt_sections(
-        &mut self,
-        edition: u32,
-        before: &mut NamesBefore,
-        reader: &mut Reader,
-    ) -> Result<(), Fault> {
-        adopt_section(&mut self.device, edition, before, reader)?;
-        before.push(D::name());
-        Ok(())
     }
 }

@@ -1,18 +1,15 @@
 // What code over any tree of devices can ask of it.
-ghost use Rattle.std.specs.Prelude.{◌≡◌, ◌+◌, ◌*◌, ◌%◌, ◌<◌, ◌≤◌, min, true, ◌++◌, length, OnOk};
+ghost use Rattle.std.specs.Prelude.{◌≡◌, ◌+◌, ◌*◌, ◌%◌, ◌<◌, ◌≤◌, min, true, ◌++◌, length};
 ghost use Rattle.section.specs.Layout.{over};
 ghost use Rattle.section.specs.Names.{listed};
 ghost use Rattle.tree.specs.Carrying.{uncarried};
 ghost use Rattle.tree.specs.Calls.{Calls, Keeps};
-ghost use Rattle.tree.specs.Reading.{sections, adoptions};
 ghost use Rattle.tree.specs.Stream.{written, layout, size as size_of, names as names_of};
 ghost use Rattle.tree.specs.Tree as on;
 ghost use Rattle.tree.specs.Tree.{Tree, State, Sound, Lawful};
-ghost use Rattle.wire.specs.Outcome.{left, outcome, void};
 
 use fault::Fault;
 use section::names::NamesBefore;
-use wire::reader::Reader;
 
 // A device, or a bus of two nodes.
 pub trait Node {
@@ -103,25 +100,4 @@ pub trait Node {
         ensures size { result ≡ size_of model (written model edition (state self.now)) }
         ensures buffer { out.new ≡ over (layout model (listed before.old) (written model edition (state self.now))) out.old }
         ensures names { listed before.new ≡ listed before.old ++ names_of model };
-
-    // Reads and checks the sections of the leaves, which come after those with the names before, and adds their names.
-    fn check_sections(
-        edition: u32,
-        before: &mut NamesBefore,
-        reader: &mut Reader,
-    ) -> Result<(), Fault>
-        requires { length (listed before.old) + on.leaves model ≤ 16 }
-        ensures reads { outcome (λ _. tt) result reader.new ≡ void (sections model (listed before.old) edition reader.old.place (left reader.old)) }
-        ensures names { OnOk result (listed before.new ≡ listed before.old ++ names_of model) };
-
-    // Each leaf adopts its section as it is read. A leaf that fails stays as it was; those before it have adopted theirs.
-    fn adopt_sections(
-        &mut self,
-        edition: u32,
-        before: &mut NamesBefore,
-        reader: &mut Reader,
-    ) -> Result<(), Fault>
-        requires { length (listed before.old) + on.leaves model ≤ 16 }
-        ensures adopts { outcome (λ _. state self.new) result reader.new ≡ adoptions model (listed before.old) edition reader.old.place (left reader.old) }
-        ensures names { OnOk result (listed before.new ≡ listed before.old ++ names_of model) };
 }
