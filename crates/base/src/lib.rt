@@ -1,4 +1,6 @@
 // The base board, which every panel has: a serial port at addresses 0 to 7 and a clock at 8 and 9.
+#![tactic(auto)]
+
 ghost use Rattle.std.specs.Prelude.{◌≡◌};
 ghost use Rattle.base.specs.Base.{base, devices};
 ghost use Rattle.tree.specs.Tree.{fresh};

@@ -1,4 +1,6 @@
 // What every device offers to its guest, and what one owes that can be moved.
+#![tactic(auto)]
+
 pub mod bits;
 pub mod numbers;
 

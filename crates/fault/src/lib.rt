@@ -1,4 +1,6 @@
 // Why a call is refused: the cause with what it names, and the six numbers that a console shows.
+#![tactic(auto)]
+
 mod numbering;
 mod wording;
 

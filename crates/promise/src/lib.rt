@@ -1,4 +1,6 @@
 // What boards of any tree promise about moving.
+#![tactic(auto)]
+
 ghost use Rattle.promise.specs.Editions.{Carriage};
 ghost use Rattle.promise.specs.Promise.{Promise};
 

@@ -1,4 +1,6 @@
 // What holds of streams, whatever the tree.
+#![tactic(auto)]
+
 ghost use Rattle.reading.specs.Accepting.{Streams};
 
 use tree::node::Node;

@@ -1,4 +1,5 @@
 // The clock chip, after the MC146818: an index register, and the registers behind it.
+#![tactic(auto)]
 
 mod body;
 mod registers;

@@ -1,4 +1,6 @@
 // A small device, as an example for those who make one: a dial that is read, turned and ticked.
+#![tactic(auto)]
+
 pub mod state;
 mod stream;
 

@@ -1,4 +1,6 @@
 // One leaf's section of a stream: how it is written, how long it is, and why an edition cannot write it.
+#![tactic(auto)]
+
 pub mod buffer;
 pub mod carrying;
 pub mod marks;

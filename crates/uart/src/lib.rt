@@ -1,4 +1,6 @@
 // The 16550A serial port.
+#![tactic(auto)]
+
 pub use port::Uart;
 pub use state::{Interrupt, Register, UartState, UartSubsection};
 

@@ -1,4 +1,6 @@
 // Worked boards: some proved of the rules, some compared by tests.
+#![tactic(auto)]
+
 ghost use Rattle.worked.specs.Worked.{Worked};
 
 // Does nothing: it promises that the worked boards hold of the rules.
