@@ -1,5 +1,5 @@
 -- The lengths of identities and sections.
-use Rattle.std.proofs.Common.{◌≡◌, ℕ, ◌+◌, List, length, arith}
+use Rattle.std.proofs.Common.{◌≡◌, ℕ, List, length, arith}
 use Rattle.std.proofs.lemmas.List.{length-append}
 use Rattle.device.specs.Kind.{Kind}
 use Rattle.device.specs.Format.{Format, Section}

@@ -10,7 +10,7 @@ returns g c =
     let is = ap (λ names. layout t names x) c.none-before.ensures in
     let head = start c.args.out.now header refl c.put-n.ensures.count (omega arith) c.put-n.ensures.buffer in
     let conf = step configuration refl head c.put-n-2.ensures.count (omega arith) c.put-n-2.ensures.buffer in
-    let body = step (layout t [] x) is conf c.write-sections-n.ensures.count (omega arith)
-    c.write-sections-n.ensures.buffer in
+    let body = step (layout t [] x) is conf c.write_sections-n.ensures.count (omega arith)
+    c.write_sections-n.ensures.buffer in
     let end = step (0 ∷ []) refl body c.put-n-3.ensures.count (omega arith) c.put-n-3.ensures.buffer in
     record { count = end.count; buffer = end.value }

@@ -10,11 +10,11 @@ returns c =
     let name = c.args.name.now in
     let before = listed c.args.before.now in
     let number =
-    start c.args.out.now (four (length before)) refl c.put-leaf-number-n.ensures.count (omega arith)
-    c.put-leaf-number-n.ensures.buffer in
+    start c.args.out.now (four (length before)) refl c.put_leaf_number-n.ensures.count (omega arith)
+    c.put_leaf_number-n.ensures.buffer in
     let size = step (length name ∷ []) refl number c.put-n.ensures.count (omega arith) c.put-n.ensures.buffer in
     let text = step name refl size c.put-n-2.ensures.count (omega arith) c.put-n-2.ensures.buffer in
     let instance =
-    step (four (times name before)) refl text c.put-instance-n.ensures.count (omega arith)
-    c.put-instance-n.ensures.buffer in
+    step (four (times name before)) refl text c.put_instance-n.ensures.count (omega arith)
+    c.put_instance-n.ensures.buffer in
     record { count = instance.count; size = omega arith; buffer = instance.value }

@@ -22,17 +22,17 @@ returns g c =
     let size = ap length is in
     let length-body = ap (λ v. length (f.body v s)) row in
     let tag = start c.args.out.now (4 ∷ []) refl c.put-n.ensures.count (omega arith) c.put-n.ensures.buffer in
-    let id = step (identity before name) (ap (identity before) is) tag c.put-identity-n.ensures.count (omega arith)
-    c.put-identity-n.ensures.buffer in
-    let number = step (four version) (ap four row) id c.put-number-n.ensures.count (omega arith)
-    c.put-number-n.ensures.buffer in
-    let body = step (f.body version s) (ap (λ v. f.body v s) row) number c.put-body-n.ensures.count (omega arith)
-    c.put-body-n.ensures.buffer in
-    let subs = step (subsections f (needed f s)) refl body c.put-subsections-n.ensures.count (omega arith)
-    c.put-subsections-n.ensures.buffer in
+    let id = step (identity before name) (ap (identity before) is) tag c.put_identity-n.ensures.count (omega arith)
+    c.put_identity-n.ensures.buffer in
+    let number = step (four version) (ap four row) id c.put_number-n.ensures.count (omega arith)
+    c.put_number-n.ensures.buffer in
+    let body = step (f.body version s) (ap (λ v. f.body v s) row) number c.put_body-n.ensures.count (omega arith)
+    c.put_body-n.ensures.buffer in
+    let subs = step (subsections f (needed f s)) refl body c.put_subsections-n.ensures.count (omega arith)
+    c.put_subsections-n.ensures.buffer in
     let close = step (0x7e ∷ []) refl subs c.put-n-2.ensures.count (omega arith) c.put-n-2.ensures.buffer in
-    let end = step (four (length before)) refl close c.put-leaf-number-n.ensures.count (omega arith)
-    c.put-leaf-number-n.ensures.buffer in
+    let end = step (four (length before)) refl close c.put_leaf_number-n.ensures.count (omega arith)
+    c.put_leaf_number-n.ensures.buffer in
     let bytes = laid g.D.Device.kind f before (section_by f c.args.edition s) in
     let last = four (length before) in
     let parts = joined (identity before name) (four version) (f.body version s) (subsections f (needed f s)) last in

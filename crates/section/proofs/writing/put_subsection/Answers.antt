@@ -18,9 +18,9 @@ returns g c =
     start c.args.out.now (5 ∷ length name ∷ []) (ap (λ t. 5 ∷ length t ∷ []) is) c.put-n.ensures.count (omega arith)
     c.put-n.ensures.buffer in
     let text = step name is tag c.put-n-2.ensures.count (omega arith) c.put-n-2.ensures.buffer in
-    let version = step (four 1) refl text c.put-number-n.ensures.count (omega arith)
-    c.put-number-n.ensures.buffer in
-    let body = step (f.sub c.args.number s) refl version c.put-subsection-body-n.ensures.count (omega arith)
-    c.put-subsection-body-n.ensures.buffer in
+    let version = step (four 1) refl text c.put_number-n.ensures.count (omega arith)
+    c.put_number-n.ensures.buffer in
+    let body = step (f.sub c.args.number s) refl version c.put_subsection_body-n.ensures.count (omega arith)
+    c.put_subsection_body-n.ensures.buffer in
     let whole = regroup (subsections f (one f s c.args.number)) body refl refl (simp (append-nil, append_assoc)) in
     record { count = whole.count; buffer = whole.value }

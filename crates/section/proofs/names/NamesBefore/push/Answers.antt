@@ -5,8 +5,8 @@ use Rattle.section.proofs.names.NamesBefore.push.Goals as goal
 pub bounds-self-self : goal.bounds-self-self
 bounds-self-self c = let few = simp (length-take, length-map) at c.requires in omega arith
 
-pub invariant-of-self-2 : goal.invariant-of-self-2
-invariant-of-self-2 c = let few = simp (length-take, length-map) at c.requires in (omega arith, tt)
+pub invariant_of-self-2 : goal.invariant_of-self-2
+invariant_of-self-2 c = let few = simp (length-take, length-map) at c.requires in record { few = omega arith }
 
 pub returns : goal.returns
 returns c =
