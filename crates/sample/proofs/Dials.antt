@@ -6,7 +6,7 @@ use Rattle.device.specs.Bytes.{Bytes, bit, flag, total, differs, same}
 use Rattle.device.specs.Format.{title, Section, Served, Takes, SubPasses, Ascending, Passes, OfBytes, needed, section_at}
 use Rattle.device.specs.Obligations.{AdoptedAs, Formed, Obligations}
 use Rattle.sample.specs.declared.state.DialState.{DialState}
-use Rattle.sample.specs.Dial.{dial, dial_format, refused, usual, latch_of, passed, version}
+use Rattle.sample.specs.Dial.{dial, dial_format, refused, latch_of, passed, version}
 
 -- ---- versions are 1 and 2: at each, the format computes
 
