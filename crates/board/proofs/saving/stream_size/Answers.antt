@@ -1,4 +1,4 @@
-use Rattle.std.proofs.Common.{sym, ◌∙◌, arith}
+use Rattle.std.proofs.Common.{arith}
 use Rattle.board.proofs.Streams.{length-stream}
 use Rattle.board.proofs.saving.stream_size.Goals as goal
 

@@ -1,6 +1,6 @@
-use Rattle.std.proofs.Common.{[], ◌∷◌, length, refl, ap, arith}
-use Rattle.section.proofs.Writes.{start, step, regroup}
-use Rattle.tree.specs.Stream.{header, configuration, layout, written, stream}
+use Rattle.std.proofs.Common.{[], ◌∷◌, refl, ap, arith}
+use Rattle.section.proofs.Writes.{start, step}
+use Rattle.tree.specs.Stream.{header, configuration, layout, written}
 use Rattle.board.proofs.saving.write_stream.Goals as goal
 
 pub returns : goal.returns
