@@ -1,5 +1,5 @@
 -- The clock chip MC146818, as its guest sees it.
-use Rattle.std.specs.Prelude.{◌≡◌, ℕ, zero, suc, ◌+◌, ◌-◌, ◌*◌, ◌/◌, ◌%◌, ◌<◌, ◌≤◌, Bool, true, false, cond, ◌&&◌, ◌||◌, List, ◌∷◌, length, set, replicate, Some, None, codes, Option, ◌==◌, bit_and, bit_or, nat_lt, slice_index, slice_set}
+use Rattle.std.specs.Prelude.{◌≡◌, ℕ, zero, suc, ◌+◌, ◌-◌, ◌*◌, ◌/◌, ◌%◌, ◌<◌, ◌≤◌, Bool, true, false, cond, ◌&&◌, ◌||◌, List, ◌∷◌, length, replicate, Some, None, codes, Option, ◌==◌, bit_and, bit_or, nat_lt, slice_index, slice_set}
 use Rattle.device.specs.Bytes.{bit}
 use Rattle.device.specs.Kind.{Kind}
 use Rattle.rtc.specs.State.{with_index, with_registers, with_phase, with_updated}
