@@ -1,6 +1,6 @@
 -- Bits, bytes and the numbers that bytes stand for.
 use Rattle.std.specs.Prelude.{ℕ, ◌+◌, ◌*◌, ◌/◌, ◌%◌, ◌^◌, ◌<◌, Bool, true, false, cond, not, ◌&&◌, List, [], ◌∷◌, ◌==◌}
-use Rattle.std.specs.List.{AllByRecursion as All}
+use Rattle.std.specs.List.{AllByRecursion}
 
 -- bit k of a number, bit 0 the lowest
 abbrev pub bit : ℕ → ℕ → Bool
@@ -12,7 +12,7 @@ flag b = cond b 1 0
 
 -- each number of a list is a byte
 abbrev pub Bytes : List ℕ → Type 0
-Bytes bs = All (λ b. b < 256) bs
+Bytes bs = AllByRecursion (λ b. b < 256) bs
 
 -- a number as four bytes, the highest first
 abbrev pub four : ℕ → List ℕ

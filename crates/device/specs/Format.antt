@@ -1,6 +1,6 @@
 -- How the states of a kind travel: bodies by version, subsections by number, and what each edition does with them.
 use Rattle.std.specs.Prelude.{◌≡◌, ℕ, zero, suc, ◌<◌, ◌≤◌, Bool, true, cond, not, ◌&&◌, List, [], ◌∷◌, length, take, drop, Some, None, Option, nat_le, slice_index_or}
-use Rattle.std.specs.List.{AllByRecursion as All}
+use Rattle.std.specs.List.{AllByRecursion}
 use Rattle.device.specs.Bytes.{Bytes, same, differs, total}
 
 -- the highest edition
@@ -144,9 +144,9 @@ module _ {S : Type 0} (f : Format S) where
     pub long : length x.body ≡ body_size x.version
     pub checked : f.check x.version x.body ≡ None
     pub order : Ascending 0 x.subs
-    pub subs : All (λ p. SubPasses x.version x.body p.0 p.1) x.subs
+    pub subs : AllByRecursion (λ p. SubPasses x.version x.body p.0 p.1) x.subs
 
 -- a section is of bytes
 pub record OfBytes (x : Section) : Type 0 where
   pub body : Bytes x.body
-  pub subs : All (λ p. Bytes p.1) x.subs
+  pub subs : AllByRecursion (λ p. Bytes p.1) x.subs

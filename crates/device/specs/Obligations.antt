@@ -1,6 +1,6 @@
 -- What a device owes so that its states can be moved between editions.
 use Rattle.std.specs.Prelude.{◌≡◌, ℕ, suc, ◌<◌, ◌≤◌, true, List, length, Some, None, ◌≢◌}
-use Rattle.std.specs.List.{AllByRecursion as All}
+use Rattle.std.specs.List.{AllByRecursion}
 use Rattle.device.specs.Bytes.{Bytes}
 use Rattle.device.specs.Kind.{Kind}
 use Rattle.device.specs.Format.{latest, Served, Section, Format, count, title, body_size, sub_size, needs, section_at, section_by, Carries, Takes, Passes, OfBytes}
@@ -9,7 +9,7 @@ module _ {S : Type 0} (kind : Kind S) (f : Format S) where
   -- The form of a device: its name and width, its table of subsections, its versions, and the sizes of what it writes.
   pub record Formed : Type 0 where
     pub name-length : (1 ≤ length kind.name) × (length kind.name ≤ 16)
-    pub name-letters : All (λ c. (0x61 ≤ c) × (c ≤ 0x7a)) kind.name
+    pub name-letters : AllByRecursion (λ c. (0x61 ≤ c) × (c ≤ 0x7a)) kind.name
     pub width : (1 ≤ kind.width) × (kind.width ≤ 256)
     pub few : count f ≤ 8
     pub title-length : (k : ℕ) → k < count f → (1 ≤ length (title f k)) × (length (title f k) ≤ 32)

@@ -1,6 +1,6 @@
 -- The list of the subsections that a state needs.
 use Rattle.std.proofs.Common.{◌≡◌, ℕ, zero, suc, ◌+◌, ◌<◌, ◌≤◌, Bool, true, false, cond, ◌⊎◌, List, [], ◌∷◌, sym, refl, ap, ◌∙◌, subst, inl, inr, arith}
-use Rattle.std.specs.List.{AllByRecursion as All}
+use Rattle.std.specs.List.{AllByRecursion}
 use Rattle.std.proofs.lemmas.Bool.{cases_eq, both_ways}
 use Rattle.device.specs.Format.{Format, Ascending, count, needs, needed_from}
 use Rattle.reading.proofs.Subs.{Unknowns, unknown}
@@ -25,16 +25,16 @@ module _ {S : Type 0} (f : Format S) (s : S) where
   -- what holds of each needed subsection holds of the list, and back
   pub all-needed :
       (P : ℕ × List ℕ → Type 0) (k n : ℕ)
-      → ((j : ℕ) → k ≤ j → j < k + n → needs f s j ≡ true → P (j, f.sub j s)) → All P (needed_from f s k n)
+      → ((j : ℕ) → k ≤ j → j < k + n → needs f s j ≡ true → P (j, f.sub j s)) → AllByRecursion P (needed_from f s k n)
   all-needed P k zero h = tt
   all-needed P k (suc n) h = go (needs f s k) refl (all-needed P (suc k) n (λ j l m. h j (omega arith) (omega arith)))
     where
-      go : (b : Bool) → needs f s k ≡ b → All P (needed_from f s (suc k) n) → All P (from b k n)
+      go : (b : Bool) → needs f s k ≡ b → AllByRecursion P (needed_from f s (suc k) n) → AllByRecursion P (from b k n)
       go true need later = (h k (omega arith) (omega arith) need, later)
       go false need later = later
 
   pub in-needed :
-      (P : ℕ × List ℕ → Type 0) (k n j : ℕ) → k ≤ j → j < k + n → needs f s j ≡ true → All P (needed_from f s k n)
+      (P : ℕ × List ℕ → Type 0) (k n j : ℕ) → k ≤ j → j < k + n → needs f s j ≡ true → AllByRecursion P (needed_from f s k n)
       → P (j, f.sub j s)
   in-needed P k zero j low high need h = absurd (omega arith)
   in-needed P k (suc n) j low high need h =
@@ -42,7 +42,7 @@ module _ {S : Type 0} (f : Format S) (s : S) where
     where
       go :
           (b : Bool) → needs f s k ≡ b → (k ≡ j) ⊎ (k ≡ j → ⊥)
-          → (suc k ≤ j → All P (needed_from f s (suc k) n) → P (j, f.sub j s)) → All P (from b k n) → P (j, f.sub j s)
+          → (suc k ≤ j → AllByRecursion P (needed_from f s (suc k) n) → P (j, f.sub j s)) → AllByRecursion P (from b k n) → P (j, f.sub j s)
       go true is (inl same) later g = subst (λ (m : ℕ). P (m, f.sub m s)) same g.0
       go true is (inr other) later g = later (omega arith) g.1
       go false is (inl same) later g = absurd (both_ways (needs f s j) (ap (needs f s) (sym same) ∙ is) need)

@@ -1,6 +1,6 @@
 -- What calls leave as it was, what they keep sound, and one list of calls after another.
 use Rattle.std.proofs.Common.{◌≡◌, ℕ, ◌≤◌, Bool, true, false, cond, ◌&&◌, ltb, leb, ◌⊎◌, List, [], ◌∷◌, ◌++◌, Ok, Err, Result, sym, refl, ap, ◌∙◌, subst, inl, inr}
-use Rattle.std.specs.List.{AllByRecursion as All}
+use Rattle.std.specs.List.{AllByRecursion}
 use Rattle.std.proofs.lemmas.Bool.{false≢true, ltb-true, leb-true, and_parts}
 use Rattle.device.specs.Bytes.{Bytes}
 use Rattle.device.specs.Format.{Served, is_served}
@@ -171,11 +171,11 @@ module _ (t : Tree) (c : Calls t) (lawful : Lawful t) (keeps : Keeps t c) where
   step-sound incoming (Load e bytes) w h = loaded-sound (loading t e bytes) (loading-sound e bytes w)
   step-sound (sent s) call w h = h
 
-  run_sound : (b : Board t) (calls : List Call) → All BringsBytes calls → SoundOn t b → SoundOn t (run t c b calls).1
+  run_sound : (b : Board t) (calls : List Call) → AllByRecursion BringsBytes calls → SoundOn t b → SoundOn t (run t c b calls).1
   run_sound b [] w h = h
   run_sound b (call ∷ calls) w h = run_sound (step t c b call).1 calls w.1 (step-sound b call w.0 h)
 
-  pub sound : (b : Board t) (calls : List Call) → Made t b → All BringsBytes calls → SoundOn t (run t c b calls).1
+  pub sound : (b : Board t) (calls : List Call) → Made t b → AllByRecursion BringsBytes calls → SoundOn t (run t c b calls).1
   sound b calls made w = run_sound b calls w (go made.as-made)
     where
       go : (b ≡ running (fresh t)) ⊎ (b ≡ incoming) → SoundOn t b

@@ -1,6 +1,6 @@
 -- What boards of a tree promise about moving, over runs of calls.
 use Rattle.std.specs.Prelude.{◌≡◌, ℕ, ◌<◌, ◌≤◌, true, ◌⊎◌, ◌↔◌, List, ◌∷◌, ◌++◌, length, take, drop, ◌≢◌}
-use Rattle.std.specs.List.{AllByRecursion as All}
+use Rattle.std.specs.List.{AllByRecursion}
 use Rattle.device.specs.Format.{latest, Served}
 use Rattle.tree.specs.Tree.{Tree, State, Sound, fresh, leaves}
 use Rattle.tree.specs.Calls.{Calls}
@@ -49,7 +49,7 @@ module _ (t : Tree) (c : Calls t) where
   -- admitted calls on a board made of the tree, which leave it stopped in state s
   pub record Stops (b : Board t) (calls : List Call) (s : State t) : Type 0 where
     pub made : Made t b
-    pub bytes : All BringsBytes calls
+    pub bytes : AllByRecursion BringsBytes calls
     pub turns : admitted t c b calls ≡ true
     pub stops : left b calls ≡ stopped s
 
@@ -95,7 +95,7 @@ module _ (t : Tree) (c : Calls t) where
         (b : Board t) (e : ℕ) (buffer after : List ℕ) (F : Fault)
         → answer b (OfStopped (Save e buffer)) ≡ NotSaved F after → after ≡ buffer
     -- calls keep the devices sound
-    pub sound : (b : Board t) (calls : List Call) → Made t b → All BringsBytes calls → SoundOn t (left b calls)
+    pub sound : (b : Board t) (calls : List Call) → Made t b → AllByRecursion BringsBytes calls → SoundOn t (left b calls)
     -- no other editions are served
     pub editions :
         (s : State t) (e : ℕ) (bytes : List ℕ) → leaves t ≤ 16 → (Served e → ⊥)

@@ -1,6 +1,6 @@
 -- One section: laid out, it is read or refused as its edition says; read, it is laid out.
 use Rattle.std.proofs.Common.{◌≡◌, ℕ, suc, ◌+◌, ◌<◌, Bool, true, false, leb, List, [], ◌∷◌, ◌++◌, length, Some, None, sym, refl, ap, ◌∙◌, append_assoc, arith, length-append}
-use Rattle.std.specs.List.{AllByRecursion as All}
+use Rattle.std.specs.List.{AllByRecursion}
 use Rattle.std.proofs.lemmas.Bool.{le-leb, leb-true, eqb-true, eq-eqb, and_from, and_parts}
 use Rattle.device.specs.Bytes.{Bytes, four}
 use Rattle.device.specs.Kind.{Kind}
@@ -130,7 +130,7 @@ module _
         (x : Section) (at : ℕ) (rest : List ℕ) → x.version < 4294967296 → Takes f e x.version
         → length x.body ≡ body_size f x.version → f.check x.version x.body ≡ None → Ascending f 0 x.subs
         → (un : Unknowns knows x.subs)
-        → All (λ p. knows p.0 ≡ true → SubPasses f x.version x.body p.0 p.1) x.subs
+        → AllByRecursion (λ p. knows p.0 ≡ true → SubPasses f x.version x.body p.0 p.1) x.subs
         → Off (section kind f before e at (laid kind f before x ++ rest))
         (λ place. fault.UnknownSubsection n place (length (title f (unknown knows x.subs un))))
     off-section x at rest small takes long checked order un pass =

@@ -1,6 +1,6 @@
 -- The subsections of one section: laid out, they are read, or refused at the first that is not known; read, they are laid out.
 use Rattle.std.proofs.Common.{◌≡◌, ℕ, zero, suc, ◌+◌, ◌<◌, ◌≤◌, Bool, true, false, eqb, leb, ◌⊎◌, List, [], ◌∷◌, ◌++◌, length, Some, None, Option, sym, refl, ap, ◌∙◌, subst, inl, inr, append_assoc, arith, length-append}
-use Rattle.std.specs.List.{AllByRecursion as All}
+use Rattle.std.specs.List.{AllByRecursion}
 use Rattle.std.proofs.lemmas.Bool.{cond-true, cond-false, le-leb, leb-true, eqb-true, cases_Bool}
 use Rattle.device.specs.Bytes.{Bytes, four}
 use Rattle.device.specs.Format.{Format, count, title, sub_size, SubPasses, Ascending}
@@ -16,7 +16,7 @@ use Rattle.reading.proofs.Titles.{Apart, numbered-title, numbered-named}
 
 -- each subsection of a list is known
 abbrev pub AllKnown : (ℕ → Bool) → List (ℕ × List ℕ) → Type 0
-AllKnown knows ss = All (λ p. knows p.0 ≡ true) ss
+AllKnown knows ss = AllByRecursion (λ p. knows p.0 ≡ true) ss
 
 -- some subsection is not
 abbrev pub Unknowns : (ℕ → Bool) → List (ℕ × List ℕ) → Type 0
@@ -138,7 +138,7 @@ module _ {S : Type 0} (f : Format S) (apart : Apart f) (e n v : ℕ) (body : Lis
 
   pub on-subs :
       (ss : List (ℕ × List ℕ)) (fuel least at : ℕ) (rest : List ℕ)
-      → Ascending f least ss → AllKnown knows ss → All Pass ss → Enough fuel least
+      → Ascending f least ss → AllKnown knows ss → AllByRecursion Pass ss → Enough fuel least
       → subs f e n v body fuel least at (subsections f ss ++ (0x7e ∷ rest)) ≡ got ss (at + length (subsections f ss) + 1) rest
   on-subs [] zero least at rest asc known pass enough = absurd (omega arith)
   on-subs [] (suc fuel) least at rest asc known pass enough =
@@ -157,7 +157,7 @@ module _ {S : Type 0} (f : Format S) (apart : Apart f) (e n v : ℕ) (body : Lis
   -- up to the first that is not known
   pub off-subs :
       (ss : List (ℕ × List ℕ)) (fuel least at : ℕ) (rest : List ℕ)
-      → Ascending f least ss → (un : Unknowns knows ss) → All (λ p. knows p.0 ≡ true → Pass p) ss → Enough fuel least
+      → Ascending f least ss → (un : Unknowns knows ss) → AllByRecursion (λ p. knows p.0 ≡ true → Pass p) ss → Enough fuel least
       → Off (subs f e n v body fuel least at (subsections f ss ++ (0x7e ∷ rest)))
       (λ place. fault.UnknownSubsection n place (length (title f (unknown knows ss un))))
   off-subs [] fuel least at rest asc un pass enough = absurd un
@@ -277,8 +277,8 @@ module _ {S : Type 0} (f : Format S) (apart : Apart f) (e n v : ℕ) (body : Lis
     pub whole : source ≡ subsections f ss ++ (0x7e ∷ rest)
     pub order : Ascending f least ss
     pub known : AllKnown knows ss
-    pub pass : All Pass ss
-    pub bytes : All (λ p. Bytes p.1) ss
+    pub pass : AllByRecursion Pass ss
+    pub bytes : AllByRecursion (λ p. Bytes p.1) ss
     pub left : Bytes rest
 
   pub gives-subs :

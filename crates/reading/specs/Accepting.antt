@@ -1,6 +1,6 @@
 -- Which streams are accepted, what they are adopted as, and how long a stream is.
 use Rattle.std.specs.Prelude.{◌≡◌, ℕ, ◌+◌, ◌*◌, ◌≤◌, true, ◌↔◌, List, [], length, Some, None, Option}
-use Rattle.std.specs.List.{AllByRecursion as All}
+use Rattle.std.specs.List.{AllByRecursion}
 use Rattle.device.specs.Bytes.{Bytes}
 use Rattle.device.specs.Format.{Format, Served, Section, Takes, Passes, section_at}
 use Rattle.tree.specs.Tree.{Tree, leaf, bus, State, Sound, leaves}
@@ -11,7 +11,7 @@ use Rattle.reading.specs.Reading.{whole}
 -- what edition e admits: a version that it takes, subsections that it knows, and a body and subsections that pass
 pub record Admits {S : Type 0} (f : Format S) (e : ℕ) (x : Section) : Type 0 where
   pub takes : Takes f e x.version
-  pub knows : All (λ p. (f.edition e).knows p.0 ≡ true) x.subs
+  pub knows : AllByRecursion (λ p. (f.edition e).knows p.0 ≡ true) x.subs
   pub passes : Passes f x
 
 abbrev pub Admitted : (t : Tree) → ℕ → Sections t → Type 0

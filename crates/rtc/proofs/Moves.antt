@@ -1,6 +1,6 @@
 -- A clock whose second has at most 2^32 ticks meets its obligations.
 use Rattle.std.proofs.Common.{◌≡◌, ℕ, ◌^◌, ◌≤◌, Bool, true, cond, ◌||◌, eqb, leb, List, [], ◌∷◌, length, drop, Some, None, Option, refl, ap, ◌∙◌, inl, inr, le_refl, arith, lit≤}
-use Rattle.std.specs.List.{AllByRecursion as All}
+use Rattle.std.specs.List.{AllByRecursion}
 use Rattle.std.proofs.lemmas.List.{length-take-le, length-drop}
 use Rattle.std.proofs.lemmas.Bool.{cases_Bool, cond_both, le-leb, lt-ltb, eq-eqb, leb-true, ltb-true, eqb-true}
 use Rattle.device.specs.Format.{latest, Section, Carries, Ascending, Passes, OfBytes}
@@ -14,7 +14,7 @@ use Rattle.rtc.proofs.Bodies.{older, completed, completed-on}
 -- ---- the check: nothing is refused exactly if every row passes
 
 abbrev AllPass : List (ℕ × Bool) → Type 0
-AllPass = All (λ p. p.1 ≡ true)
+AllPass = AllByRecursion (λ p. p.1 ≡ true)
 
 none-refused : (ps : List (ℕ × Bool)) → AllPass ps → first_refused ps ≡ None
 none-refused [] h = refl

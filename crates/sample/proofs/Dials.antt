@@ -1,6 +1,6 @@
 -- The dial meets its obligations.
 use Rattle.std.proofs.Common.{◌≡◌, ℕ, zero, suc, ◌<◌, ◌≤◌, Bool, true, false, cond, not, eqb, ltb, List, [], ◌∷◌, ◌++◌, length, get_or, Some, None, Option, sym, refl, ap, ◌∙◌, subst, arith, length-append}
-use Rattle.std.specs.List.{AllByRecursion as All}
+use Rattle.std.specs.List.{AllByRecursion}
 use Rattle.std.proofs.lemmas.Bool.{false≢true, lt-ltb, ltb-true, eqb-true, eq-eqb, and_parts, and_from, cond-true}
 use Rattle.device.specs.Bytes.{Bytes, bit, flag, total, differs, same}
 use Rattle.device.specs.Format.{title, Section, Served, Takes, SubPasses, Ascending, Passes, OfBytes, needed, section_at}
@@ -152,7 +152,7 @@ module _ (v i : ℕ) (b : List ℕ) (front : get_or (dial_format.complete v b) 0
   one-sub (l ∷ m ∷ own) h = absurd (let l = h.long in omega arith)
 
   all-subs :
-      (ss : List (ℕ × List ℕ)) → Ascending dial_format 0 ss → All (λ p. SubPasses dial_format v b p.0 p.1) ss
+      (ss : List (ℕ × List ℕ)) → Ascending dial_format 0 ss → AllByRecursion (λ p. SubPasses dial_format v b p.0 p.1) ss
       → Subs i ss
   all-subs [] asc h = nothing
   all-subs (p ∷ []) asc h =

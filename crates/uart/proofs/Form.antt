@@ -1,6 +1,6 @@
 -- The form of the serial port: its name, its subsections' names, the sizes of what it writes.
 use Rattle.std.proofs.Common.{◌≡◌, ℕ, zero, suc, ◌<◌, ◌≤◌, Bool, true, ◌&&◌, ltb, leb, List, [], ◌∷◌, length, refl, ap, arith}
-use Rattle.std.specs.List.{AllByRecursion as All}
+use Rattle.std.specs.List.{AllByRecursion}
 use Rattle.std.proofs.lemmas.Bool.{and_parts, ltb-true, leb-true}
 use Rattle.device.specs.Bytes.{Bytes}
 use Rattle.device.specs.Format.{count, title, sub_size}
@@ -16,7 +16,7 @@ abbrev each : (ℕ → Bool) → List ℕ → Bool
 each p [] = true
 each p (x ∷ xs) = p x && each p xs
 
-tested : (p : ℕ → Bool) (P : ℕ → Type 0) → ((x : ℕ) → p x ≡ true → P x) → (xs : List ℕ) → each p xs ≡ true → All P xs
+tested : (p : ℕ → Bool) (P : ℕ → Type 0) → ((x : ℕ) → p x ≡ true → P x) → (xs : List ℕ) → each p xs ≡ true → AllByRecursion P xs
 tested p P f [] h = tt
 tested p P f (x ∷ xs) h =
     let q = and_parts (p x) (each p xs) h in
@@ -25,7 +25,7 @@ tested p P f (x ∷ xs) h =
 bytes : (xs : List ℕ) → each (λ b. ltb b 256) xs ≡ true → Bytes xs
 bytes xs h = tested (λ b. ltb b 256) (λ b. b < 256) (λ b. ltb-true b 256) xs h
 
-letters : (xs : List ℕ) → each (λ c. leb 0x61 c && leb c 0x7a) xs ≡ true → All (λ c. (0x61 ≤ c) × (c ≤ 0x7a)) xs
+letters : (xs : List ℕ) → each (λ c. leb 0x61 c && leb c 0x7a) xs ≡ true → AllByRecursion (λ c. (0x61 ≤ c) × (c ≤ 0x7a)) xs
 letters xs h =
     tested (λ c. leb 0x61 c && leb c 0x7a) (λ c. (0x61 ≤ c) × (c ≤ 0x7a))
     (λ c e. let q = and_parts (leb 0x61 c) (leb c 0x7a) e in (leb-true 0x61 c q.0, leb-true c 0x7a q.1)) xs h

@@ -1,6 +1,6 @@
 -- The subsections of a section by their numbers: what stands for one, and that they are those that a state needs.
 use Rattle.std.proofs.Common.{◌≡◌, ℕ, zero, suc, ◌+◌, ◌<◌, ◌≤◌, true, cond, eqb, List, [], ◌∷◌, sym, refl, ap, ◌∙◌, subst, ⊎_elim, arith}
-use Rattle.std.specs.List.{AllByRecursion as All}
+use Rattle.std.specs.List.{AllByRecursion}
 use Rattle.std.proofs.ByRecursion.{All-weaker}
 use Rattle.std.proofs.lemmas.Bool.{cond-true, cond-false, cond_both, cases_eq, eq-eqb, ne_eqb, eqb-true}
 use Rattle.device.specs.Bytes.{differs}
@@ -14,7 +14,7 @@ Listed = List (ℕ × List ℕ)
 -- what holds of each subsection and of the default holds of what stands for number k
 pub present-holds :
     (P : ℕ → List ℕ → Type 0) (k : ℕ) (ps : Listed) (d : List ℕ)
-    → All (λ p. P p.0 p.1) ps → P k d → P k (present k ps d)
+    → AllByRecursion (λ p. P p.0 p.1) ps → P k d → P k (present k ps d)
 present-holds P k [] d h q = q
 present-holds P k (p ∷ ps) d h q =
     cond_both (eqb p.0 k) p.1 (present k ps d) (P k)
@@ -92,7 +92,7 @@ module _ {S : Type 0} (f : Format S) where
 
     listed :
         (n j : ℕ) (ps : Listed) → j + n ≡ count f → Ascending f j ps
-        → All (λ p. differs p.1 (f.default p.0 b) ≡ true) ps
+        → AllByRecursion (λ p. differs p.1 (f.default p.0 b) ≡ true) ps
         → ((k : ℕ) → j ≤ k → k < count f → f.sub k s ≡ present k ps (f.default k b))
         → needed_from f s j n ≡ ps
     listed zero j [] c a h g = refl
