@@ -1,5 +1,5 @@
 // A board whose guest runs.
-ghost use Rattle.std.specs.Prelude.{◌≡◌, ◌%◌, ◌≤◌, IfErr, Ok, Err};
+ghost use Rattle.std.specs.Prelude.{◌≡◌, ◌%◌, ◌≤◌, false, IfErr, Ok, Err};
 ghost use Rattle.board.specs.Guest.{making, reading, writing, feeding, ticking, lining, performing, mapped, Addressed};
 ghost use Rattle.tree.specs.Tree.{leaves, width, lines};
 
@@ -121,7 +121,8 @@ impl<T: Node> Running<T> {
 
     // Holds the board still. The slip is owed to whoever lets it go on.
     pub fn stop(self) -> (Stopped<T>, PauseSlip)
-        ensures { result.0.tree ≡ self.tree }
+        ensures devices { result.0.tree ≡ self.tree }
+        ensures slip { result.1.resumed ≡ false }
     {
         let Running { tree } = self;
         (Stopped { tree }, PauseSlip::new())

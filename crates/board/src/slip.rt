@@ -1,24 +1,29 @@
 // The duty that comes with a stopped board.
+ghost use Rattle.std.specs.Prelude.{◌≡◌, true, false};
 
 // Stands for a board that was stopped and has to go on: resuming it takes the slip back. A slip cannot be copied, made by
 // others or let go.
-pub struct PauseSlip(());
+pub struct PauseSlip {
+    resumed: bool,
+}
 
 impl PauseSlip {
-    pub(crate) fn new() -> PauseSlip {
-        PauseSlip(())
+    pub(crate) fn new() -> PauseSlip
+        ensures { result.resumed ≡ false }
+    {
+        PauseSlip { resumed: false }
     }
 
     pub(crate) fn spend(self) {
-        let PauseSlip(()) = self;
+        let PauseSlip { resumed: _ } = self;
     }
 }
 
 impl Drop for PauseSlip {
-    // Nothing meets this, so a program that mislays a slip is not proved.
+    // No slip that is handed out meets this, so a program that mislays one is not proved.
     fn drop(self)
-        requires { ⊥ }
+        requires { self.resumed ≡ true }
     {
-        let PauseSlip(()) = self;
+        let PauseSlip { resumed: _ } = self;
     }
 }

@@ -74,7 +74,10 @@ impl Device for Rtc {
         None
     }
 
-    fn feed(&mut self, byte: u8) {}
+    // A clock has no input; it asks for none here, so that this is a call that can be made.
+    fn feed(&mut self, byte: u8)
+        ensures { self.new.state ≡ (rules.kind ticks_per_second).feed self.old.state byte }
+    {}
 
     fn tick(&mut self, ticks: u16) {
         self.state.tick(RATE, ticks)

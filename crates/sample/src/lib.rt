@@ -4,7 +4,7 @@
 pub mod state;
 mod stream;
 
-ghost use Rattle.std.specs.Prelude.{◌<◌};
+ghost use Rattle.std.specs.Prelude.{◌≡◌, ◌<◌};
 ghost use Rattle.sample.specs.Dial.{dial};
 
 use device::Device;
@@ -62,7 +62,10 @@ impl Device for Dial {
         None
     }
 
-    fn feed(&mut self, byte: u8) {}
+    // A dial has no input; it asks for none here, so that this is a call that can be made.
+    fn feed(&mut self, byte: u8)
+        ensures { self.new ≡ self.old }
+    {}
 
     fn tick(&mut self, ticks: u16) {
         self.latch = true;
