@@ -1,6 +1,12 @@
 // The program `panel` on a script that goes through the registers of both devices.
 #![tactic(auto)]
 
-fn main(rt: HostRuntime) -> anyhow::Result<()> {
-    console::program::run(&rt)
+use std::process::ExitCode;
+
+// A failure has been printed by the time that `run` hands it on.
+fn main(rt: HostRuntime) -> ExitCode {
+    match console::program::run(&rt) {
+        Ok(()) => ExitCode::SUCCESS,
+        Err(_) => ExitCode::FAILURE,
+    }
 }
