@@ -1,6 +1,7 @@
 // A board whose guest runs.
-ghost use Rattle.std.specs.Prelude.{◌≡◌, ◌%◌, ◌≤◌, false, IfErr, Ok, Err};
+ghost use Rattle.std.specs.Prelude.{◌≡◌, ◌≤◌, false, IfErr, Ok, Err};
 ghost use Rattle.board.specs.Guest.{making, reading, writing, feeding, ticking, lining, performing, mapped, Addressed};
+ghost use Rattle.board.specs.Saving.{sized};
 ghost use Rattle.tree.specs.Tree.{leaves, width, lines};
 
 use crate::call::{Answer, Call};
@@ -10,14 +11,25 @@ use fault::Fault;
 use tree::node::Node;
 
 // The most leaves that a board has.
-pub(crate) const MOST_LEAVES: u64 = 16;
+const MOST_LEAVES: u64 = 16;
 
-// The most ticks that one call passes.
-const MOST_TICKS: u32 = 65535;
-
+// A board has at most 16 leaves; the clauses below say so where they need it. As a ghost field over a bound `T: Node` it was
+// tried: of a function that only holds such a board, the check says that it "cannot read" a type of the bound.
 #[derive(Drop)]
 pub struct Running<T> {
     pub(crate) tree: T,
+}
+
+// Refuses a tree of more leaves than a board has.
+pub(crate) fn few_leaves<T: Node>() -> Result<(), Fault>
+    ensures { result ≡ sized T.Node.model (Ok tt) }
+{
+    let leaves = T::leaves();
+    if leaves > MOST_LEAVES {
+        let leaves = u8::try_from(leaves).unwrap_or(u8::MAX);
+        return Err(Fault::TooManyLeaves { leaves });
+    }
+    Ok(())
 }
 
 // Refuses an address that the tree does not have.
@@ -30,22 +42,13 @@ fn addressed<T: Node>(address: u32) -> Result<(), Fault>
     Ok(())
 }
 
-// Does nothing: it promises that sixteen bits show the lines of sixteen leaves.
-fn all_shown<T: Node>(tree: &T)
-    ensures { leaves T.Node.model ≤ 16 → lines T.Node.model (T.Node.state tree.now) % 65536 ≡ lines T.Node.model (T.Node.state tree.now) }
-{}
-
 impl<T: Node> Running<T> {
     // Makes a running board of a tree, which takes its fresh state. A tree of too many leaves is given back.
     pub fn new(mut tree: T) -> Result<Running<T>, (Fault, T)>
         ensures value { mapped (λ b. T.Node.state b.tree) (λ e. e.0) result ≡ making T.Node.model }
         ensures back { IfErr result (λ e. e.1 ≡ tree) }
     {
-        let leaves = T::leaves();
-        if leaves > MOST_LEAVES {
-            let fault = Fault::TooManyLeaves {
-                leaves: leaves.min(255) as u8,
-            };
+        if let Err(fault) = few_leaves::<T>() {
             return Err((fault, tree));
         }
         tree.reset();
@@ -84,11 +87,13 @@ impl<T: Node> Running<T> {
     pub fn tick(&mut self, ticks: u32) -> Result<(), Fault>
         ensures { (result, T.Node.state self.new.tree) ≡ ticking T.Node.calls (T.Node.state self.old.tree) ticks }
     {
-        if ticks < 1 || ticks > MOST_TICKS {
-            return Err(Fault::TickCount { ticks });
+        match u16::try_from(ticks) {
+            Ok(passed) if passed > 0 => {
+                self.tree.tick(passed);
+                Ok(())
+            }
+            _ => Err(Fault::TickCount { ticks }),
         }
-        self.tree.tick(ticks as u16);
-        Ok(())
     }
 
     // The line of leaf k as bit k. Sixteen bits show all of them, since a board has at most 16 leaves.
@@ -96,7 +101,6 @@ impl<T: Node> Running<T> {
         ensures answer { result ≡ lining T.Node.calls (T.Node.state self.now.tree) }
         ensures all { leaves T.Node.model ≤ 16 → result ≡ lines T.Node.model (T.Node.state self.now.tree) }
     {
-        all_shown(&self.tree);
         self.tree.lines()
     }
 

@@ -4,7 +4,6 @@ ghost use Rattle.board.specs.Saving.{saving, answer_of, buffer_of, Judged};
 ghost use Rattle.tree.specs.Tree.{leaves};
 
 use crate::running::Running;
-use crate::saving::save;
 use crate::slip::PauseSlip;
 use fault::Fault;
 use tree::node::Node;
@@ -21,7 +20,8 @@ impl<T: Node> Stopped<T> {
         ensures buffer { buffer.new ≡ buffer_of buffer.old (saving T.Node.model (T.Node.state self.now.tree) edition buffer.old) }
         ensures judged { leaves T.Node.model ≤ 16 → Judged T.Node.model (T.Node.state self.now.tree) edition buffer.old result }
     {
-        save(&self.tree, edition, buffer)
+        T::lawful();
+        self.save_stream(edition, buffer)
     }
 
     // The guest goes on where it was stopped.

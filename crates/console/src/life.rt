@@ -6,7 +6,6 @@ use board::running::Running;
 use board::slip::PauseSlip;
 use board::stopped::Stopped;
 use fault::Fault;
-use script::line::Command;
 
 pub enum Life {
     Running(Running<BaseTree>),
@@ -27,44 +26,33 @@ impl Life {
         }
     }
 
-    // Carries out a command that changes the board; others leave it as it is.
-    pub fn perform(self, command: Command<'_>) -> (Reply, Life) {
-        match command {
-            Command::Guest(call) => self.guest(call),
-            Command::Stop => self.stop(),
-            Command::Resume => self.resume(),
-            _ => (self.state(), self),
-        }
-    }
-
     // Performs a call of the guest, which only a running board has.
-    fn guest(self, call: Call) -> (Reply, Life) {
+    pub(crate) fn guest(self, call: Call) -> (Reply, Life) {
         match self {
             Life::Running(mut board) => {
-                let reply = match board.perform(call) {
-                    Ok(answer) => Reply::Answered(answer),
-                    Err(fault) => Reply::Refused(fault),
-                };
+                let reply = board
+                    .perform(call)
+                    .map_or_else(Reply::Refused, Reply::Answered);
                 (reply, Life::Running(board))
             }
-            Life::Stopped(board, slip) => (Reply::NotAdmitted, Life::Stopped(board, slip)),
+            stopped => (Reply::NotAdmitted, stopped),
         }
     }
 
-    fn stop(self) -> (Reply, Life) {
+    pub(crate) fn stop(self) -> (Reply, Life) {
         match self {
             Life::Running(board) => {
                 let (board, slip) = board.stop();
                 (Reply::Stopped, Life::Stopped(board, slip))
             }
-            Life::Stopped(board, slip) => (Reply::NotAdmitted, Life::Stopped(board, slip)),
+            stopped => (Reply::NotAdmitted, stopped),
         }
     }
 
-    fn resume(self) -> (Reply, Life) {
+    pub(crate) fn resume(self) -> (Reply, Life) {
         match self {
-            Life::Running(board) => (Reply::NotAdmitted, Life::Running(board)),
             Life::Stopped(board, slip) => (Reply::Running, Life::Running(board.resume(slip))),
+            running => (Reply::NotAdmitted, running),
         }
     }
 
@@ -75,9 +63,11 @@ impl Life {
             Life::Stopped(board, _) => Some(board.save(edition, buffer)),
         }
     }
+}
 
-    // Gives a board up. A stopped one is resumed first, which takes its slip back.
-    pub fn close(self) {
+impl Drop for Life {
+    // A stopped board is resumed first, which takes its slip back.
+    fn drop(self) {
         match self {
             Life::Running(_) => {}
             Life::Stopped(board, slip) => {

@@ -3,57 +3,45 @@ use crate::session::Session;
 use anyhow::anyhow;
 use script::line::read_line;
 use std::io::{BufRead, BufReader};
+use std::process::ExitCode;
 use std::{env, fs};
 
 // Carries out one line, and prints it with its reply.
-fn obey(rt: &HostRuntime, session: &mut Session, at: u64, line: &str) -> anyhow::Result<()> {
-    let command = match read_line(line) {
-        Ok(Some(command)) => command,
-        Ok(None) => return Ok(()),
-        Err(mistake) => return Err(anyhow!(format!(in rt.alloc(); "line {at}: {mistake}")?)),
+fn obey(session: &mut Session<'_>, at: u64, line: &str) -> anyhow::Result<()> {
+    let Some(command) = read_line(line).map_err(|mistake| anyhow!("line {at}: {mistake}"))? else {
+        return Ok(());
     };
-    match session.perform(rt, command) {
-        Ok(reply) => Ok(println!(rt; "{command} -> {reply}")?),
-        Err(trouble) => Err(anyhow!(format!(in rt.alloc(); "line {at}: {trouble}")?)),
-    }
+    let reply = session
+        .perform(command)
+        .map_err(|trouble| anyhow!("line {at}: {trouble}"))?;
+    Ok(println!(session.rt; "{command} -> {reply}")?)
 }
 
-fn obey_file(rt: &HostRuntime, session: &mut Session, path: &str) -> anyhow::Result<()> {
-    let text = fs::read_to_string(rt, path)?;
-    let mut at = 0u64;
-    for line in text.lines() {
-        at = at.saturating_add(1);
-        obey(rt, session, at, line)?;
+// Carries out each line as soon as it is read.
+fn obey_lines<R: BufRead + Drop>(session: &mut Session<'_>, script: R) -> anyhow::Result<()> {
+    for (at, line) in (1..=u64::MAX).zip(script.lines(session.rt.alloc())) {
+        obey(session, at, line?.as_str())?;
     }
     Ok(())
 }
 
-fn obey_input(rt: &HostRuntime, session: &mut Session) -> anyhow::Result<()> {
-    let mut at = 0u64;
-    for line in BufReader::new(rt.alloc(), rt.stdin())?.lines(rt.alloc()) {
-        at = at.saturating_add(1);
-        obey(rt, session, at, line?.as_str())?;
-    }
-    Ok(())
-}
-
-fn obey_script(rt: &HostRuntime, session: &mut Session) -> anyhow::Result<()> {
-    let mut args = env::args(rt)?;
-    let _ = args.next();
-    match args.next() {
-        Some(path) => obey_file(rt, session, path.as_str()),
-        None => obey_input(rt, session),
+// A file is read whole before its first line is carried out.
+fn obey_script(session: &mut Session<'_>) -> anyhow::Result<()> {
+    let rt = session.rt;
+    match env::args(rt)?.nth(1) {
+        Some(path) => obey_lines(session, fs::read_to_string(rt, path)?.as_bytes()),
+        None => obey_lines(session, BufReader::new(rt.alloc(), rt.stdin())?),
     }
 }
 
 // Performs the script in the file that the first argument names, or else in standard input, and prints each command with
-// its reply. A failure goes to standard error, and is handed on.
-pub fn run(rt: &HostRuntime) -> anyhow::Result<()> {
-    let mut session = Session::new(rt.alloc());
-    let result = obey_script(rt, &mut session);
-    session.close();
-    if let Err(e) = &result {
-        let _ = eprintln!(rt; "panel: {e}");
+// its reply. A failure goes to standard error, and ends the script.
+pub fn main(rt: &HostRuntime) -> ExitCode {
+    match obey_script(&mut Session::new(rt)) {
+        Ok(()) => ExitCode::SUCCESS,
+        Err(e) => {
+            let _ = eprintln!(rt; "panel: {e}");
+            ExitCode::FAILURE
+        }
     }
-    result
 }

@@ -16,6 +16,7 @@ pub enum Reply {
     NotAdmitted,
 }
 
+// The words of an answer stand here and not with `Answer`, so that all replies are in one place.
 impl fmt::Display for Reply {
     fn fmt<W: fmt::Write>(&self, f: &mut fmt::Formatter<W>) -> fmt::Result {
         match *self {

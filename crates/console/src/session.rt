@@ -4,113 +4,78 @@ ghost use Rattle.std.specs.Prelude.{◌<◌, IfSome, vec_len};
 use crate::life::Life;
 use crate::reply::Reply;
 use script::line::Command;
-use std::alloc::Global;
-use std::{fmt, fs};
+use std::alloc::AllocError;
+use std::fs;
+use thiserror::Error;
 
+#[derive(Drop)]
 struct Named {
     name: String,
     life: Life,
 }
 
-impl Named {
-    fn close(self) {
-        let Named { name: _, life } = self;
-        life.close();
-    }
-}
-
-// The board at hand stands last.
-pub struct Session {
+#[derive(Drop)]
+pub struct Session<'a> {
+    pub(crate) rt: &'a HostRuntime,
+    // The board at hand stands last. The boards stay a list: beside a map the name at hand would be kept a second time.
     boards: Vec<Named>,
 }
 
 // Why a command cannot be carried out.
-#[derive(Clone, Copy)]
+#[derive(Clone, Copy, Debug, Error)]
 pub enum Trouble<'a> {
+    #[error("there is no board yet: make one by `board NAME running`")]
     NoBoard,
+    #[error("there is no board `{0}`")]
     UnknownBoard(&'a str),
+    #[error("there is a board `{0}` already")]
     NameTaken(&'a str),
+    #[error("the file `{0}` cannot be written")]
     Unwritable(&'a str),
-    NoMemory,
+    #[error("out of memory")]
+    NoMemory(#[from(alloc)] AllocError),
 }
 
-impl fmt::Display for Trouble<'_> {
-    fn fmt<W: fmt::Write>(&self, f: &mut fmt::Formatter<W>) -> fmt::Result {
-        match *self {
-            Trouble::NoBoard => write!(
-                f,
-                "there is no board yet: make one by `board NAME running`"
-            ),
-            Trouble::UnknownBoard(name) => write!(f, "there is no board `{name}`"),
-            Trouble::NameTaken(name) => write!(f, "there is a board `{name}` already"),
-            Trouble::Unwritable(path) => write!(f, "the file `{path}` cannot be written"),
-            Trouble::NoMemory => write!(f, "out of memory"),
-        }
-    }
-}
-
-impl Session {
-    pub fn new(heap: Global) -> Session {
+impl<'a> Session<'a> {
+    pub fn new(rt: &'a HostRuntime) -> Session<'a> {
         Session {
-            boards: Vec::new(heap),
+            rt,
+            boards: Vec::new(rt.alloc()),
         }
     }
 
     // Carries out a command.
-    pub fn perform<'a>(
-        &mut self,
-        rt: &HostRuntime,
-        command: Command<'a>,
-    ) -> Result<Reply, Trouble<'a>> {
-        if let Command::Board { name } = command {
-            return self.make(rt.alloc(), name);
-        }
-        if let Command::On { name } = command {
-            return self.go_on(name);
-        }
-        if let Command::Save {
-            edition,
-            size,
-            path,
-        } = command
-        {
-            return self.save(rt, edition, size as usize, path);
-        }
-        self.change(command)
-    }
-
-    // Gives all boards up.
-    pub fn close(self) {
-        let Session { mut boards } = self;
-        while let Some(named) = boards.pop() {
-            named.close();
-        }
-        boards.destroy_empty();
-    }
-
-    // Takes the board at hand.
-    fn take<'a>(&mut self) -> Result<Named, Trouble<'a>> {
-        match self.boards.pop() {
-            Some(named) => Ok(named),
-            None => Err(Trouble::NoBoard),
+    pub fn perform<'c>(&mut self, command: Command<'c>) -> Result<Reply, Trouble<'c>> {
+        match command {
+            Command::Board { name } => self.make(name),
+            Command::On { name } => self.go_on(name),
+            Command::Guest(call) => self.change(|life| life.guest(call)),
+            Command::Stop => self.change(Life::stop),
+            Command::Resume => self.change(Life::resume),
+            // There is no From of a u32 for a usize.
+            Command::Save {
+                edition,
+                size,
+                path,
+            } => self.save(edition, size as usize, path),
         }
     }
 
     // Puts a board at hand, and answers.
-    fn put<'a>(&mut self, named: Named, reply: Reply) -> Result<Reply, Trouble<'a>> {
-        match self.boards.push(named) {
-            Ok(()) => Ok(reply),
-            Err(refused) => {
-                refused.value.close();
-                Err(Trouble::NoMemory)
-            }
-        }
+    fn put<'c>(&mut self, named: Named, reply: Reply) -> Result<Reply, Trouble<'c>> {
+        self.boards.push(named)?;
+        Ok(reply)
     }
 
-    // Carries out a command that changes the board at hand.
-    fn change<'a>(&mut self, command: Command<'a>) -> Result<Reply, Trouble<'a>> {
-        let Named { name, life } = self.take()?;
-        let (reply, life) = life.perform(command);
+    // Carries out what changes the board at hand.
+    fn change<'c, F: FnOnce(Life) -> (Reply, Life)>(
+        &mut self,
+        step: F,
+    ) -> Result<Reply, Trouble<'c>>
+        requires { F.IsAlwaysCallable step }
+    {
+        let Named { name, life } = self.boards.pop().ok_or(Trouble::NoBoard)?;
+        let (reply, life) = step(life);
         self.put(Named { name, life }, reply)
     }
 
@@ -118,60 +83,39 @@ impl Session {
     fn find(&self, name: &str) -> Option<usize>
         ensures { IfSome result (λ i. i < vec_len self.now.boards) }
     {
-        for (i, named) in self.boards.iter().enumerate() {
-            if named.name.as_str() == name {
-                return Some(i);
-            }
-        }
-        None
+        self.boards
+            .iter()
+            .position(|named| named.name.as_str() == name)
     }
 
-    fn make<'a>(&mut self, heap: Global, name: &'a str) -> Result<Reply, Trouble<'a>> {
+    fn make<'c>(&mut self, name: &'c str) -> Result<Reply, Trouble<'c>> {
         if self.find(name).is_some() {
             return Err(Trouble::NameTaken(name));
         }
-        let Ok(name) = String::from_str(heap, name) else {
-            return Err(Trouble::NoMemory);
-        };
+        let name = String::from_str(self.rt.alloc(), name)?;
         let life = Life::new();
         self.put(Named { name, life }, Reply::Running)
     }
 
-    fn go_on<'a>(&mut self, name: &'a str) -> Result<Reply, Trouble<'a>> {
-        match self.find(name) {
-            Some(place) => {
-                let named = self.boards.remove(place);
-                let state = named.life.state();
-                self.put(named, state)
-            }
-            None => Err(Trouble::UnknownBoard(name)),
-        }
+    fn go_on<'c>(&mut self, name: &'c str) -> Result<Reply, Trouble<'c>> {
+        let place = self.find(name).ok_or(Trouble::UnknownBoard(name))?;
+        let named = self.boards.remove(place);
+        let state = named.life.state();
+        self.put(named, state)
     }
 
     // Saves the board at hand, and keeps the stream in a file.
-    fn save<'a>(
-        &self,
-        rt: &HostRuntime,
-        edition: u32,
-        size: usize,
-        path: &'a str,
-    ) -> Result<Reply, Trouble<'a>> {
-        let Some(named) = self.boards.last() else {
-            return Err(Trouble::NoBoard);
-        };
-        let Ok(mut buffer) = vec![in rt.alloc(); 0u8; size] else {
-            return Err(Trouble::NoMemory);
-        };
-        match named.life.save(edition, buffer.as_mut_slice()) {
-            None => Ok(Reply::NotAdmitted),
-            Some(Err(fault)) => Ok(Reply::Refused(fault)),
+    fn save<'c>(&self, edition: u32, size: usize, path: &'c str) -> Result<Reply, Trouble<'c>> {
+        let named = self.boards.last().ok_or(Trouble::NoBoard)?;
+        let mut buffer = vec![in self.rt.alloc(); 0u8; size]?;
+        Ok(match named.life.save(edition, buffer.as_mut_slice()) {
+            None => Reply::NotAdmitted,
+            Some(Err(fault)) => Reply::Refused(fault),
             Some(Ok(length)) => {
                 buffer.truncate(length);
-                match fs::write(rt, path, buffer.as_slice()) {
-                    Ok(()) => Ok(Reply::Saved(length)),
-                    Err(_) => Err(Trouble::Unwritable(path)),
-                }
+                fs::write(self.rt, path, buffer.as_slice()).map_err(|_| Trouble::Unwritable(path))?;
+                Reply::Saved(length)
             }
-        }
+        })
     }
 }

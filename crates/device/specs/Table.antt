@@ -1,7 +1,8 @@
 -- The subsections of a section as a program holds them: a table with a place for each number.
-use Rattle.std.specs.Prelude.{◌≡◌, ℕ, suc, Bool, true, false, List, [], ◌∷◌, length, Some, None, Option}
+use Rattle.std.specs.Prelude.{◌≡◌, ℕ, suc, List, [], ◌∷◌, length, Some, None, Ok, Err, Option, Result}
 use Rattle.std.specs.Borrow.{Bor}
 use Rattle.device.specs.Format.{Format, Section, count, sub_size}
+use Rattle.device.specs.declared.adoption.NotAdopted.{NotAdopted}
 
 -- the subsections that stand in a table, with their numbers, of which the first is k
 abbrev pub standing : ℕ → List (Option (Bor (List ℕ))) → List (ℕ × List ℕ)
@@ -25,6 +26,6 @@ abbrev pub section_of : ℕ → List ℕ → List (Option (Bor (List ℕ))) → 
 section_of v body os = record { version = v; body = body; subs = standing 0 os }
 
 -- what a device in state s answers to a section that gives a state, or none; and its state after
-abbrev pub adopting : {S : Type 0} → Option S → S → Bool × S
-adopting None s = (false, s)
-adopting (Some t) s = (true, t)
+abbrev pub adopting : {S : Type 0} → Option S → S → Result (Unit {0}) NotAdopted × S
+adopting None s = (Err (record {}), s)
+adopting (Some t) s = (Ok tt, t)

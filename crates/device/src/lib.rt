@@ -1,14 +1,19 @@
 // What every device offers to its guest, and what one owes that can be moved.
 #![tactic(auto)]
 
+pub mod adoption;
 pub mod bits;
+pub mod bytes;
 pub mod numbers;
 
-ghost use Rattle.std.specs.Prelude.{◌≡◌, ◌<◌, ◌≤◌, true, length};
+ghost use Rattle.std.specs.Prelude.{◌≡◌, ℕ, ◌<◌, ◌≤◌, true, length, map};
+ghost use Rattle.std.specs.List.{range_with_len};
 ghost use Rattle.device.specs.Kind.{Kind, Closed};
 ghost use Rattle.device.specs.Format.{Format, count, title as title_of, body_size, sub_size, needs as needs_in, off_default, taken, is_needed};
 ghost use Rattle.device.specs.Obligations.{Obligations};
 ghost use Rattle.device.specs.Table.{Table, section_of, adopting};
+
+use adoption::NotAdopted;
 
 // A device as its guest sees it: each call answers, and leaves the state, that the kind's rules give.
 pub trait Device {
@@ -21,13 +26,10 @@ pub trait Device {
     // The state that a device is in.
     ghost meaning: { Self → Self.State };
 
-    // Does nothing: it promises that the calls leave a sound state sound.
+    // Does nothing: it promises that the calls leave a sound state sound. It is no law, since a law's proof may cite only
+    // specs/, which holds what a reader must believe.
     fn closed()
         ensures { Closed kind };
-
-    // Does nothing: it promises that the device's state is sound.
-    fn sound(&self)
-        ensures { kind.Sound (meaning self.now) };
 
     // The letters of the kind's name.
     fn name() -> &'static [u8]
@@ -35,8 +37,7 @@ pub trait Device {
 
     // The number of offsets.
     fn width() -> u32
-        ensures value { result ≡ kind.width }
-        ensures span { (1 ≤ result) × (result ≤ 256) };
+        ensures { result ≡ kind.width };
 
     // Whether bytes can be fed to the device.
     fn has_input() -> bool
@@ -68,14 +69,27 @@ pub trait Device {
     // Whether the device asks for an interrupt.
     fn line(&self) -> bool
         ensures { result ≡ kind.line (meaning self.now) };
+
+    // A device has 1 to 256 offsets.
+    ghost span: { (1 ≤ kind.width) × (kind.width ≤ 256) };
+
+    // Every device is in a sound state.
+    ghost sound: { (device : Self) → kind.Sound (meaning device) };
 }
 
 // A device whose state can travel. It is first of all a device: what it writes and adopts is the state that it is in.
 pub trait Movable: Device {
+    // The subsections of the kind. A kind without any has `()`, since a function that takes a value of an empty type could
+    // not be called, and the gate refuses it.
+    type Subsection: Copy + 'static;
+
     // How its states travel.
     ghost format: { Format Self.State };
 
-    // Does nothing: it promises that the kind meets its obligations.
+    // The number of a subsection in the format's table.
+    ghost numbered: { Self.Subsection → ℕ };
+
+    // Does nothing: it promises that the kind meets its obligations, which are to stand in what a function promises.
     fn lawful()
         ensures { Obligations Self.Device.kind format };
 
@@ -87,33 +101,33 @@ pub trait Movable: Device {
     fn takes(edition: u32, version: u32) -> bool
         ensures { result ≡ taken format edition version };
 
-    // Whether an edition knows a subsection.
-    fn knows(edition: u32, number: u8) -> bool
-        requires { number < count format }
-        ensures { result ≡ (format.edition edition).knows number };
+    // The subsections in the order of their numbers.
+    fn subsections() -> &'static [Self::Subsection]
+        ensures { map numbered result.now ≡ range_with_len 0 (count format) };
 
-    // How many subsections there are.
-    fn subsections() -> u8
-        ensures { result ≡ count format };
+    // The number of a subsection.
+    fn number(subsection: Self::Subsection) -> u8
+        ensures { result ≡ numbered subsection };
+
+    // Whether an edition knows a subsection.
+    fn knows(edition: u32, subsection: Self::Subsection) -> bool
+        ensures { result ≡ (format.edition edition).knows (numbered subsection) };
 
     // The name of a subsection.
-    fn title(number: u8) -> &'static [u8]
-        requires { number < count format }
-        ensures { result.now ≡ title_of format number };
+    fn title(subsection: Self::Subsection) -> &'static [u8]
+        ensures { result.now ≡ title_of format (numbered subsection) };
 
     // How many bytes a body has.
     fn body_size(version: u32) -> usize
         ensures { result ≡ body_size format version };
 
     // How many bytes a subsection has.
-    fn subsection_size(number: u8) -> usize
-        requires { number < count format }
-        ensures { result ≡ sub_size format number };
+    fn subsection_size(subsection: Self::Subsection) -> usize
+        ensures { result ≡ sub_size format (numbered subsection) };
 
     // Whether the state needs a subsection: a test that misses a state is not proved.
-    fn needs(&self, number: u8) -> bool
-        requires { number < count format }
-        ensures { result ≡ needs_in format (Self.Device.meaning self.now) number };
+    fn needs(&self, subsection: Self::Subsection) -> bool
+        ensures { result ≡ needs_in format (Self.Device.meaning self.now) (numbered subsection) };
 
     // The first field absent from a version that is off its default.
     fn off_default(&self, version: u32) -> Option<u16>
@@ -125,34 +139,45 @@ pub trait Movable: Device {
         ensures { out.new ≡ format.body version (Self.Device.meaning self.now) };
 
     // Writes a subsection over `out`.
-    fn write_subsection(&self, number: u8, out: &mut [u8])
-        requires known { number < count format }
-        requires size { length out.old ≡ sub_size format number }
-        ensures { out.new ≡ format.sub number (Self.Device.meaning self.now) };
+    fn write_subsection(&self, subsection: Self::Subsection, out: &mut [u8])
+        requires { length out.old ≡ sub_size format (numbered subsection) }
+        ensures { out.new ≡ format.sub (numbered subsection) (Self.Device.meaning self.now) };
 
-    // The first refused field of a body.
+    // The first refused field of a body. Here and below a body stays a version and bytes with a `requires`: in a struct
+    // `Body<Self>` that keeps its size, the check proves no `impl`, since a kind has the associated type of its states.
     fn check_body(version: u32, body: &[u8]) -> Option<u16>
         requires { length body.now ≡ body_size format version }
         ensures { result ≡ format.check version body.now };
 
     // The first refused field of a subsection beside a body.
-    fn check_subsection(version: u32, body: &[u8], number: u8, own: &[u8]) -> Option<u16>
+    fn check_subsection(
+        version: u32,
+        body: &[u8],
+        subsection: Self::Subsection,
+        own: &[u8],
+    ) -> Option<u16>
         requires body_size { length body.now ≡ body_size format version }
-        requires known { number < count format }
-        requires size { length own.now ≡ sub_size format number }
-        ensures { result ≡ format.check_sub version body.now number own.now };
+        requires size { length own.now ≡ sub_size format (numbered subsection) }
+        ensures { result ≡ format.check_sub version body.now (numbered subsection) own.now };
 
     // Whether a subsection beside a body is off its default.
-    fn is_needed(version: u32, body: &[u8], number: u8, own: &[u8]) -> bool
+    fn is_needed(version: u32, body: &[u8], subsection: Self::Subsection, own: &[u8]) -> bool
         requires body_size { length body.now ≡ body_size format version }
-        requires known { number < count format }
-        requires size { length own.now ≡ sub_size format number }
-        ensures { result ≡ is_needed format version body.now number own.now };
+        requires size { length own.now ≡ sub_size format (numbered subsection) }
+        ensures { result ≡ is_needed format version body.now (numbered subsection) own.now };
 
     // Takes on the state that a body and its subsections give, or fails and stays as it was. Each place of the table has the
     // subsection of that number, if the section has it.
-    fn adopt(&mut self, version: u32, body: &[u8], subsections: &[Option<&[u8]>]) -> bool
+    fn adopt(
+        &mut self,
+        version: u32,
+        body: &[u8],
+        subsections: &[Option<&[u8]>],
+    ) -> Result<(), NotAdopted>
         requires body_size { length body.now ≡ body_size format version }
         requires table { Table format subsections.now }
         ensures { (result, Self.Device.meaning self.new) ≡ adopting (format.adopt (section_of version body.now subsections.now)) (Self.Device.meaning self.old) };
+
+    // Where there are subsections, the number of one is its place in the table.
+    ghost known: { (subsection : Self.Subsection) → 1 ≤ count format → numbered subsection < count format };
 }

@@ -13,6 +13,15 @@ const UNKNOWN: u8 = 254;
 // Where the configuration stands, behind the header.
 const CONFIGURATION_PLACE: usize = 8;
 
+// The layer that refuses.
+#[derive(Clone, Copy)]
+enum Layer {
+    Board = 1,
+    Stream = 2,
+    Section = 3,
+    Device = 4,
+}
+
 fn named(number: Option<u8>) -> u8
     ensures { result ≡ named_by number }
 {
@@ -33,6 +42,7 @@ impl Fault {
         }
     }
 
+    // A fault carries values and some share a number, so `as u8` does not give it.
     fn number(&self) -> u8
         ensures { result ≡ (numbers_of self.now).number }
     {
@@ -61,32 +71,54 @@ impl Fault {
     fn layer(&self) -> u8
         ensures { result ≡ (numbers_of self.now).layer }
     {
-        match self.number() {
-            1..=4 | 6 | 7 => 1,
-            8..=10 | 17 => 2,
-            11..=13 | 16 => 3,
-            _ => 4,
-        }
+        let layer = match *self {
+            Fault::NoAddress { .. }
+            | Fault::NoInput { .. }
+            | Fault::TickCount { .. }
+            | Fault::NoEdition { .. }
+            | Fault::ShortBuffer { .. }
+            | Fault::TooManyLeaves { .. } => Layer::Board,
+            Fault::EndOfStream { .. }
+            | Fault::Header
+            | Fault::Configuration
+            | Fault::TrailingBytes { .. } => Layer::Stream,
+            Fault::SectionType { .. }
+            | Fault::Identity { .. }
+            | Fault::Version { .. }
+            | Fault::UnknownSubsection { .. }
+            | Fault::SubsectionOrder { .. }
+            | Fault::Tag { .. }
+            | Fault::ClosingLeaf { .. } => Layer::Section,
+            Fault::FieldNotCarried { .. }
+            | Fault::SubsectionNotCarried { .. }
+            | Fault::Field { .. }
+            | Fault::NotNeeded { .. }
+            | Fault::NotAdopted { .. } => Layer::Device,
+        };
+        layer as u8
     }
 
+    // Here and below, `_` is each fault that names no such thing: the contract finds one left out.
     fn section(&self) -> u32
         ensures { result ≡ (numbers_of self.now).section }
     {
         match *self {
             Fault::NoInput { leaf } => leaf,
-            Fault::FieldNotCarried { leaf, .. } => u32::from(leaf),
-            Fault::SubsectionNotCarried { leaf, .. } => u32::from(leaf),
-            Fault::EndOfStream { section, .. } => u32::from(named(section)),
-            Fault::SectionType { section, .. } => u32::from(named(section)),
-            Fault::Identity { section, .. } => u32::from(section),
-            Fault::Version { section, .. } => u32::from(section),
-            Fault::UnknownSubsection { section, .. } => u32::from(section),
-            Fault::SubsectionOrder { section, .. } => u32::from(section),
-            Fault::Field { section, .. } => u32::from(section),
-            Fault::NotNeeded { section, .. } => u32::from(section),
-            Fault::Tag { section, .. } => u32::from(section),
-            Fault::ClosingLeaf { section, .. } => u32::from(section),
-            Fault::NotAdopted { section, .. } => u32::from(section),
+            Fault::FieldNotCarried { leaf, .. } | Fault::SubsectionNotCarried { leaf, .. } => {
+                u32::from(leaf)
+            }
+            Fault::EndOfStream { section, .. } | Fault::SectionType { section, .. } => {
+                u32::from(named(section))
+            }
+            Fault::Identity { section, .. }
+            | Fault::Version { section, .. }
+            | Fault::UnknownSubsection { section, .. }
+            | Fault::SubsectionOrder { section, .. }
+            | Fault::Field { section, .. }
+            | Fault::NotNeeded { section, .. }
+            | Fault::Tag { section, .. }
+            | Fault::ClosingLeaf { section, .. }
+            | Fault::NotAdopted { section, .. } => u32::from(section),
             _ => u32::from(NONE),
         }
     }
@@ -95,13 +127,13 @@ impl Fault {
         ensures { result ≡ (numbers_of self.now).subsection }
     {
         match *self {
-            Fault::SubsectionNotCarried { subsection, .. } => subsection,
-            Fault::EndOfStream { subsection, .. } => named(subsection),
-            Fault::Version { subsection, .. } => named(subsection),
+            Fault::SubsectionNotCarried { subsection, .. }
+            | Fault::SubsectionOrder { subsection, .. }
+            | Fault::NotNeeded { subsection, .. } => subsection,
+            Fault::EndOfStream { subsection, .. }
+            | Fault::Version { subsection, .. }
+            | Fault::Field { subsection, .. } => named(subsection),
             Fault::UnknownSubsection { .. } => UNKNOWN,
-            Fault::SubsectionOrder { subsection, .. } => subsection,
-            Fault::Field { subsection, .. } => named(subsection),
-            Fault::NotNeeded { subsection, .. } => subsection,
             _ => NONE,
         }
     }
@@ -110,19 +142,19 @@ impl Fault {
         ensures { result ≡ (numbers_of self.now).place }
     {
         match *self {
-            Fault::EndOfStream { place, .. } => place,
+            Fault::EndOfStream { place, .. }
+            | Fault::SectionType { place, .. }
+            | Fault::Identity { place, .. }
+            | Fault::Version { place, .. }
+            | Fault::UnknownSubsection { place, .. }
+            | Fault::SubsectionOrder { place, .. }
+            | Fault::Field { place, .. }
+            | Fault::NotNeeded { place, .. }
+            | Fault::Tag { place, .. }
+            | Fault::ClosingLeaf { place, .. }
+            | Fault::TrailingBytes { place }
+            | Fault::NotAdopted { place, .. } => place,
             Fault::Configuration => CONFIGURATION_PLACE,
-            Fault::SectionType { place, .. } => place,
-            Fault::Identity { place, .. } => place,
-            Fault::Version { place, .. } => place,
-            Fault::UnknownSubsection { place, .. } => place,
-            Fault::SubsectionOrder { place, .. } => place,
-            Fault::Field { place, .. } => place,
-            Fault::NotNeeded { place, .. } => place,
-            Fault::Tag { place, .. } => place,
-            Fault::ClosingLeaf { place, .. } => place,
-            Fault::TrailingBytes { place } => place,
-            Fault::NotAdopted { place, .. } => place,
             _ => 0,
         }
     }
@@ -134,15 +166,15 @@ impl Fault {
             Fault::NoAddress { address } => u64::from(address),
             Fault::TickCount { ticks } => u64::from(ticks),
             Fault::NoEdition { edition } => u64::from(edition),
-            Fault::FieldNotCarried { field, .. } => u64::from(field),
+            Fault::FieldNotCarried { field, .. } | Fault::Field { field, .. } => u64::from(field),
+            // u64 has no From of a usize.
             Fault::ShortBuffer { needed } => needed as u64,
             Fault::TooManyLeaves { leaves } => u64::from(leaves),
-            Fault::SectionType { found, .. } => u64::from(found),
+            Fault::SectionType { found, .. } | Fault::Tag { found, .. } => u64::from(found),
             Fault::Version { version, .. } => u64::from(version),
-            Fault::UnknownSubsection { length, .. } => u64::from(length),
-            Fault::SubsectionOrder { length, .. } => u64::from(length),
-            Fault::Field { field, .. } => u64::from(field),
-            Fault::Tag { found, .. } => u64::from(found),
+            Fault::UnknownSubsection { length, .. } | Fault::SubsectionOrder { length, .. } => {
+                u64::from(length)
+            }
             Fault::ClosingLeaf { found, .. } => u64::from(found),
             _ => 0,
         }

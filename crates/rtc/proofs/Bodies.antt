@@ -1,8 +1,9 @@
 -- Bodies of the clock: their sizes, and that a complete body and the state that it stands for determine each other.
-use Rattle.std.proofs.Common.{◌≡◌, ℕ, ◌+◌, ◌^◌, ◌<◌, ◌≤◌, Bool, true, false, cond, ◌||◌, eqb, leb, List, [], ◌∷◌, ◌++◌, length, get_or, take, drop, replicate, Some, None, sym, refl, ap, ◌∙◌, ap₂, inl, inr, arith}
+use Rattle.std.proofs.Common.{◌≡◌, ℕ, ◌^◌, ◌<◌, ◌≤◌, Bool, true, false, cond, ◌||◌, eqb, leb, List, [], ◌∷◌, ◌++◌, length, get_or, take, drop, replicate, Some, None, sym, refl, ap, ◌∙◌, ap₂, inl, inr, arith}
 use Rattle.std.proofs.ByRecursion.{All-take, All-drop, All-push}
 use Rattle.std.proofs.lemmas.List.{append_assoc, length-append, length-drop, length-take-le, take_all, take_at, drop_at, drop-drop, drop_all, drop_more, get_or-append_right, take-append-drop, same_from_push}
-use Rattle.std.proofs.lemmas.Bool.{cases_lt, le-leb, lt-leb, le-ltb, lt-ltb, eqb-true, or_cases}
+use Rattle.std.proofs.lemmas.Bool.{cases_lt, le-leb, lt-leb, le-ltb, lt-ltb}
+use Rattle.std.proofs.lemmas.Bool.Decides.{nat_tests}
 use Rattle.device.specs.Bytes.{Bytes, four, value, total}
 use Rattle.device.specs.Format.{differ_from}
 use Rattle.rtc.specs.Rtc.{flags}
@@ -36,30 +37,19 @@ module _ (v : ℕ) (h : v < 2) where
 -- ---- sizes
 
 size-on : (v : ℕ) → 2 ≤ v → total (fields v) ≡ 68
-size-on v h = rw (from2-on v h (1 ∷ []))
+size-on v h = grind (arith, nat_tests)
 
 size-off : (v : ℕ) → v < 2 → total (fields v) ≡ 67
-size-off v h = rw (from2-off v h (1 ∷ []))
+size-off v h = grind (arith, nat_tests)
 
 pub size_small : (v : ℕ) → total (fields v) ≤ 68
-size_small v = elim (cases_lt v 2) [ inl h ↦ omega (arith, size-off v h) | inr h ↦ omega (arith, size-on v h) ]
-
-from2-size : (v x : ℕ) → 67 + length (from2 v (x ∷ [])) ≡ total (fields v)
-from2-size v x =
-    elim (cases_lt v 2) [
-      | inl h ↦ rw (from2-off v h (x ∷ [])) (sym (size-off v h))
-      | inr h ↦ rw (from2-on v h (x ∷ [])) (sym (size-on v h))
-    ]
+size_small v = grind (arith, nat_tests)
 
 pub body-size : (v : ℕ) (s : RtcState) → length s.registers ≡ 62 → length (body v s) ≡ total (fields v)
-body-size v s n = simp length-append (omega (arith, from2-size v (flags s)))
+body-size v s n = grind (arith, nat_tests, length-append)
 
 pub complete-size : (v : ℕ) (bs : List ℕ) → length bs ≡ total (fields v) → length (complete v bs) ≡ 68
-complete-size v bs n =
-    elim (cases_lt v 2) [
-      | inl h ↦ rw (complete-off v h bs) (simp length-append (omega (arith, size-off v h)))
-      | inr h ↦ rw (complete-on v h bs) (n ∙ size-on v h)
-    ]
+complete-size v bs n = grind (arith, nat_tests, length-append)
 
 pub complete-bytes : (v : ℕ) (bs : List ℕ) → Bytes bs → Bytes (complete v bs)
 complete-bytes v bs b =
@@ -90,11 +80,7 @@ module _ (s : RtcState) (n : length s.registers ≡ 62) where
 -- ---- a complete body, read and written again
 
 flag-value : (x : ℕ) → (eqb x 0 || eqb x 0x10) ≡ true → cond (eqb x 0x10) 0x10 0 ≡ x
-flag-value x e =
-    elim (or_cases (eqb x 0) (eqb x 0x10) e) [
-      | inl t ↦ rw (eqb-true x 0 t)
-      | inr t ↦ rw (eqb-true x 0x10 t)
-    ]
+flag-value x e = grind (arith, nat_tests)
 
 pub body_back :
     (bs : List ℕ) → length bs ≡ 68 → Bytes bs → (eqb (flags_of bs) 0 || eqb (flags_of bs) 0x10) ≡ true

@@ -1,6 +1,7 @@
 -- Which numbers are found by their codes.
 use Rattle.std.proofs.Common.{◌≡◌, ℕ, zero, suc, ◌+◌, ◌*◌, ◌/◌, ◌%◌, ◌<◌, ◌≤◌, Bool, true, false, cond, Some, None, sym, refl, ap, ◌∙◌, inl, inr, arith}
-use Rattle.std.proofs.lemmas.Bool.{eq-eqb, ne_eqb, cases_eq}
+use Rattle.std.specs.Bool.{then_some}
+use Rattle.std.proofs.lemmas.Bool.{cases_Bool, eq-eqb, ne_eqb, cases_eq}
 use Rattle.rtc.specs.Rtc.{code, find}
 
 -- the number that a byte is the code of, if of any
@@ -32,6 +33,21 @@ not_found binary k zero b h = refl
 not_found binary k (suc n) b h =
     rw (ne_eqb b (code binary k) (h k (omega arith) (omega arith)))
     (not_found binary (suc k) n b (λ m l g. h m (omega arith) (omega arith)))
+
+-- the number that a byte is the code of, if a test of it decides that it is in the span
+pub decided :
+    (binary : Bool) (k n b m : ℕ) (t : Bool) → m ≡ number binary b → (t ≡ true → (k ≤ m) × (m < k + n) × (code binary m ≡ b))
+    → (t ≡ false → k ≤ m → m < k + n → code binary m ≡ b → ⊥) → then_some t m ≡ find binary k n b
+decided binary k n b m t is found-by missed-by =
+    elim (cases_Bool t) [
+      | inl e ↦
+          let h = found-by e in
+          rw e (sym (ap (find binary k n) (sym h.2) ∙ found binary k n m h.0 h.1))
+      | inr e ↦
+          rw e (sym (not_found binary k n b (λ j l g q.
+          let same : m ≡ j = is ∙ ap (number binary) q ∙ number-code binary j in
+          missed-by e (omega arith) (omega arith) (ap (code binary) same ∙ sym q))))
+    ]
 
 -- nor is a code past the span
 pub past-not-found : (binary : Bool) (n m : ℕ) → n ≤ m → find binary 0 n (code binary m) ≡ None

@@ -1,13 +1,13 @@
 -- The first field in which two bodies differ: none in a body and itself, and none in what they begin with alike.
-use Rattle.std.proofs.Common.{◌≡◌, ℕ, suc, ◌+◌, ◌≤◌, true, eqb, List, [], ◌∷◌, ◌++◌, length, take, drop, None, sym, refl, ap, ◌∙◌, add-zero, add-suc, suc-add, arith}
+use Rattle.std.proofs.Common.{◌≡◌, ℕ, suc, ◌+◌, ◌≤◌, true, List, [], ◌∷◌, ◌++◌, length, take, drop, None, sym, refl, ap, ◌∙◌, add-zero, add-suc, suc-add, arith}
 use Rattle.std.proofs.lemmas.List.{length-drop, take-append-le, drop-append-le}
-use Rattle.std.proofs.lemmas.Bool.{and_from, eq-eqb}
+use Rattle.std.proofs.lemmas.Bool.Decides.{nat_tests}
 use Rattle.device.specs.Bytes.{same, total}
 use Rattle.device.specs.Format.{differ_from}
 
 same_self : (xs : List ℕ) → same xs xs ≡ true
 same_self [] = refl
-same_self (x ∷ xs) = and_from (eqb x x) (same xs xs) (eq-eqb x x refl) (same_self xs)
+same_self (x ∷ xs) = grind (arith, nat_tests, same_self xs)
 
 pub differ_self : (k : ℕ) (ns xs : List ℕ) → differ_from k ns xs xs ≡ None
 differ_self k [] xs = refl

@@ -1,8 +1,9 @@
 -- A clock whose second has at most 2^32 ticks meets its obligations.
-use Rattle.std.proofs.Common.{◌≡◌, ℕ, ◌^◌, ◌≤◌, Bool, true, cond, ◌||◌, eqb, leb, List, [], ◌∷◌, length, drop, Some, None, Option, refl, ap, ◌∙◌, inl, inr, le_refl, arith, lit≤}
+use Rattle.std.proofs.Common.{◌≡◌, ℕ, ◌^◌, ◌≤◌, Bool, true, false, cond, ◌||◌, eqb, List, [], ◌∷◌, length, drop, Some, None, Option, refl, ap, ◌∙◌, inl, inr, le_refl, arith, rules, lit≤}
 use Rattle.std.specs.List.{AllByRecursion}
 use Rattle.std.proofs.lemmas.List.{length-take-le, length-drop}
-use Rattle.std.proofs.lemmas.Bool.{cases_Bool, cond_both, le-leb, lt-ltb, eq-eqb, leb-true, ltb-true, eqb-true}
+use Rattle.std.proofs.lemmas.Bool.{cases_Bool, le-leb, lt-ltb, eq-eqb, leb-true, ltb-true, eqb-true}
+use Rattle.std.proofs.lemmas.Bool.Decides.{nat_tests}
 use Rattle.device.specs.Format.{latest, Section, Carries, Ascending, Passes, OfBytes}
 use Rattle.device.specs.Obligations.{Formed, AdoptedAs, Obligations}
 use Rattle.rtc.specs.Rtc.{reg_a, reg_b, register, stored_b, flags, fresh, Sound, kind}
@@ -25,13 +26,12 @@ all_pass [] e = tt
 all_pass (p ∷ ps) e =
     elim (cases_Bool p.1) [
       | inl t ↦ (t, all_pass ps (rw t at e))
-      | inr t ↦
-          let some : ◌≡◌ {A = Option ℕ} (Some p.0) None = rw t at e in
-          absurd (let z : ◌≡◌ {A = ℕ} 0 1 = cc in omega arith)
+      | inr t ↦ let some : ◌≡◌ {A = Option ℕ} (Some p.0) None = rw t at e in cc
     ]
 
 flags-pass : (u : Bool) → (eqb (cond u 0x10 0) 0 || eqb (cond u 0x10 0) 0x10) ≡ true
-flags-pass u = elim (cases_Bool u) [ inl t ↦ rw t | inr t ↦ rw t ]
+flags-pass true = refl
+flags-pass false = refl
 
 no-subs : (rate : ℕ) (subs : List (ℕ × List ℕ)) → Ascending (format rate) 0 subs → [] ≡ subs
 no-subs rate [] h = refl
@@ -40,11 +40,10 @@ no-subs rate (p ∷ ps) h = absurd (omega (arith, h.1))
 -- ---- editions
 
 writes-span : (e : ℕ) → (1 ≤ writes e) × (writes e ≤ 2)
-writes-span e =
-    cond_both (leb 3 e) 2 1 (λ (w : ℕ). (1 ≤ w) × (w ≤ 2)) (λ _. (lit≤ tt, lit≤ tt)) (λ _. (lit≤ tt, lit≤ tt))
+writes-span e = grind (arith, nat_tests)
 
 writes_later : (e : ℕ) → 3 ≤ e → 2 ≤ writes e
-writes_later e h = rw (le-leb 3 e h) (lit≤ tt)
+writes_later e h = grind (arith, nat_tests)
 
 module _ (rate : ℕ) (fits : rate ≤ 2 ^ 32) where
   carries : (e : ℕ) (s : RtcState) → complete (writes e) (body (writes e) s) ≡ body 2 s → Carries (format rate) e s
@@ -113,7 +112,7 @@ module _ (rate : ℕ) (fits : rate ≤ 2 ^ 32) where
   formed =
       record {
         name-length = (lit≤ tt, lit≤ tt);
-        name-letters = ((lit≤ tt, lit≤ tt), ((lit≤ tt, lit≤ tt), ((lit≤ tt, lit≤ tt), tt)));
+        name-letters = search rules;
         width = (lit≤ tt, lit≤ tt);
         few = lit≤ tt;
         title-length = λ k l. absurd (omega arith);

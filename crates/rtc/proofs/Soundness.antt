@@ -64,15 +64,14 @@ advanced-keeps b =
 
 -- ---- the calls
 
-stored-a : (r v : ℕ) → slot r ≡ 10 → (r ≡ reg_c → ⊥) → stored r v ≤ 127
-stored-a r v e n =
-    let t : r ≡ 10 = grind (arith, nat_tests) in
-    rw t (omega arith)
+stored-slot : (r v : ℕ) → (r ≡ reg_c → ⊥) → (r ≡ reg_d → ⊥) → stored (slot r) v ≡ stored r v
+stored-slot r v c d = grind (arith, nat_tests)
 
-stored-b : (r v : ℕ) → v < 256 → slot r ≡ 11 → (r ≡ reg_d → ⊥) → stored_b (stored r v) ≡ stored r v
-stored-b r v l e n =
-    let t : r ≡ 11 = grind (arith, nat_tests) in
-    rw t (stored_b-stored v l)
+stored-a : (k v : ℕ) → k ≡ 10 → stored k v ≤ 127
+stored-a k v e = rw e (omega arith)
+
+stored-b : (k v : ℕ) → v < 256 → k ≡ 11 → stored_b (stored k v) ≡ stored k v
+stored-b k v l e = rw e (stored_b-stored v l)
 
 module _ (rate : ℕ) where
   kept : (s : RtcState) → Sound rate s → Kept s.registers
@@ -81,25 +80,23 @@ module _ (rate : ℕ) where
   holding-sound : (s : RtcState) (rs : List ℕ) → Sound rate s → Kept rs → Sound rate (with_registers s rs)
   holding-sound s rs h k = (h.0, k.0, k.1, k.2, h.4)
 
-  abbrev Leaves : ℕ × RtcState → Type 0
-  Leaves p = Sound rate p.1
-
   read-sound : (s : RtcState) (o : ℕ) → Sound rate s → Sound rate (read s o).1
-  read-sound s o h =
-      cond_both (eqb o 0) _ _ Leaves (λ _. h)
-      (λ _. cond_both (eqb s.index reg_c) _ _ Leaves (λ _. h)
-      (λ _. cond_both (eqb s.index reg_d) _ _ Leaves (λ _. h) (λ _. h)))
+  read-sound s o h = grind (arith, nat_tests)
 
-  pub write-sound : (s : RtcState) (o v : ℕ) → v < 256 → Sound rate s → Sound rate (write s o v)
+  pub storing-sound :
+      (s : RtcState) (k v : ℕ) → v < 256 → Sound rate s → Sound rate (with_registers s (set s.registers k (stored k v)))
+  storing-sound s k v l h =
+      holding-sound s _ h (set-kept s.registers k (stored k v) (kept s h) (stored-a k v) (stored-b k v l))
+
+  write-sound : (s : RtcState) (o v : ℕ) → v < 256 → Sound rate s → Sound rate (write s o v)
   write-sound s o v l h =
       let r = s.index in
       cond_both (eqb o 0) _ _ (Sound rate) (λ _. (omega arith, h.1, h.2, h.3, h.4))
       (λ _. cond_both (eqb r reg_c || eqb r reg_d) _ _ (Sound rate) (λ _. h)
       (λ e.
       let ns = or_parts (eqb r reg_c) (eqb r reg_d) e in
-      holding-sound s _ h
-      (set-kept s.registers (slot r) (stored r v) (kept s h)
-      (λ k. stored-a r v k (eqb-false r reg_c ns.0)) (λ k. stored-b r v l k (eqb-false r reg_d ns.1)))))
+      let is = stored-slot r v (eqb-false r reg_c ns.0) (eqb-false r reg_d ns.1) in
+      subst (λ (x : ℕ). Sound rate (with_registers s (set s.registers (slot r) x))) is (storing-sound s (slot r) v l h)))
 
   ended-sound : (s : RtcState) → Sound rate s → Sound rate (ended s)
   ended-sound s h =

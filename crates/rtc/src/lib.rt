@@ -12,7 +12,9 @@ ghost use Rattle.rtc.specs.Rtc as rules;
 ghost use Rattle.rtc.specs.Rtc.{Sound, ticks_per_second};
 ghost use Rattle.rtc.specs.Time.{KeepsTime};
 ghost use Rattle.rtc.specs.Worked.{Midnight};
+ghost use native.Mathlib.Omega.{arith};
 
+use self::registers::{Register, VRT, stored};
 use self::state::RtcState;
 use device::Device;
 
@@ -47,8 +49,6 @@ impl Device for Rtc {
 
     fn closed() {}
 
-    fn sound(&self) {}
-
     fn name() -> &'static [u8] {
         b"rtc"
     }
@@ -66,11 +66,20 @@ impl Device for Rtc {
     }
 
     fn read(&mut self, offset: u32) -> u8 {
-        self.state.read(offset)
+        match self.register(offset) {
+            Register::Index => self.state.index,
+            Register::Held(place) => self.state.registers[place],
+            Register::Flags => self.state.read_flags(),
+            Register::Valid => VRT,
+        }
     }
 
     fn write(&mut self, offset: u32, byte: u8) -> Option<u8> {
-        self.state.write(offset, byte);
+        match self.register(offset) {
+            Register::Index => self.state.index = byte % 64,
+            Register::Held(place) => self.state.registers[place] = stored(place, byte),
+            Register::Flags | Register::Valid => {}
+        }
         None
     }
 
@@ -80,12 +89,16 @@ impl Device for Rtc {
     {}
 
     fn tick(&mut self, ticks: u16) {
-        self.state.tick(RATE, ticks)
+        self.state.tick(ticks)
     }
 
     fn line(&self) -> bool {
         self.state.line()
     }
+
+    ghost span = { (Prim.omega arith, Prim.omega arith) };
+
+    ghost sound = { λ clock. clock.sound };
 }
 
 // Does nothing: it promises that an update shows the next second of the day.

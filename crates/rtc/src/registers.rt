@@ -1,24 +1,26 @@
 // The registers of the clock, and what its guest's calls do to them.
-ghost use Rattle.std.specs.Prelude.{◌≡◌, ◌^◌, ◌<◌, ◌≤◌};
+ghost use Rattle.std.specs.Prelude.{◌≡◌, ◌≢◌, ◌<◌};
 ghost use Rattle.device.specs.Bytes.{bit as bit_of};
 ghost use Rattle.rtc.specs.Rtc as rules;
+ghost use Rattle.rtc.specs.declared.registers.Register.TheVariants.{Index, Held, Flags, Valid};
 
 use crate::state::RtcState;
-use crate::time;
+use crate::time::{self, Coding};
+use crate::{RATE, Rtc};
 use device::bits::bit;
 
-// The date's registers, which stand at 1 in a fresh clock.
+// The places of the date's registers, which stand at 1 in a fresh clock, and of the control registers A and B.
 const WEEKDAY: usize = 6;
 
 const DAY: usize = 7;
 
 const MONTH: usize = 8;
 
-// The control registers.
-pub(crate) const REG_A: u8 = 10;
+pub(crate) const REG_A: usize = 10;
 
-pub(crate) const REG_B: u8 = 11;
+pub(crate) const REG_B: usize = 11;
 
+// The numbers of the control registers C and D, which have no place.
 const REG_C: u8 = 12;
 
 const REG_D: u8 = 13;
@@ -42,7 +44,18 @@ pub(crate) const UF: u8 = 0x10;
 
 const IRQF: u8 = 0x80;
 
-const VRT: u8 = 0x80;
+pub(crate) const VRT: u8 = 0x80;
+
+// What a guest's call reaches.
+pub(crate) enum Register {
+    Index,
+    // A register that holds something, by its place among those that do.
+    Held(usize),
+    // Register C.
+    Flags,
+    // Register D.
+    Valid,
+}
 
 // What a write to register B stores.
 pub(crate) fn stored_b(value: u8) -> u8
@@ -52,25 +65,36 @@ pub(crate) fn stored_b(value: u8) -> u8
     value & kept | B_ALWAYS
 }
 
-// What a write to a register stores.
-fn stored(register: u8, value: u8) -> u8
-    ensures { result ≡ rules.stored register value }
+// What a write stores at a place.
+pub(crate) fn stored(place: usize, value: u8) -> u8
+    ensures { result ≡ rules.stored place value }
 {
-    match register {
+    match place {
         REG_A => value % 128,
         REG_B => stored_b(value),
         _ => value,
     }
 }
 
-// Where a register stands among those that hold something.
-fn slot(register: u8) -> usize
-    ensures { result ≡ rules.slot register }
-{
-    if register < REG_C {
-        register as usize
-    } else {
-        register as usize - 2
+impl Rtc {
+    // What a call at an offset reaches.
+    pub(crate) fn register(&self, offset: u32) -> Register
+        ensures { elim result [
+          | Index ↦ offset ≡ 0
+          | Held place ↦ (offset ≢ 0) × (self.now.state.index ≢ rules.reg_c) × (self.now.state.index ≢ rules.reg_d) × (place ≡ rules.slot self.now.state.index)
+          | Flags ↦ (offset ≢ 0) × (self.now.state.index ≡ rules.reg_c)
+          | Valid ↦ (offset ≢ 0) × (self.now.state.index ≡ rules.reg_d)
+        ] }
+    {
+        if offset == 0 {
+            return Register::Index;
+        }
+        match self.state.index {
+            REG_C => Register::Flags,
+            REG_D => Register::Valid,
+            number if number < REG_C => Register::Held(usize::from(number)),
+            number => Register::Held(usize::from(number) - 2),
+        }
     }
 }
 
@@ -82,8 +106,8 @@ impl RtcState {
         registers[WEEKDAY] = 1;
         registers[DAY] = 1;
         registers[MONTH] = 1;
-        registers[REG_A as usize] = 0x26;
-        registers[REG_B as usize] = B_ALWAYS;
+        registers[REG_A] = 0x26;
+        registers[REG_B] = B_ALWAYS;
         RtcState {
             index: 0,
             registers,
@@ -97,7 +121,7 @@ impl RtcState {
         requires { k < 8 }
         ensures { result ≡ bit_of k (rules.register self.now rules.reg_b) }
     {
-        bit(k, self.registers[REG_B as usize])
+        bit(k, self.registers[REG_B])
     }
 
     pub(crate) fn line(&self) -> bool
@@ -114,56 +138,13 @@ impl RtcState {
     }
 
     // Register C; reading it clears the update flag.
-    fn read_flags(&mut self) -> u8
+    pub(crate) fn read_flags(&mut self) -> u8
         ensures { (result, self.new) ≡ rules.read_register self.old rules.reg_c }
     {
         let asking = if self.line() { IRQF } else { 0 };
         let flags = self.flags();
         self.updated = false;
         flags + asking
-    }
-
-    fn read_register(&mut self, register: u8) -> u8
-        requires { register ≤ 63 }
-        ensures { (result, self.new) ≡ rules.read_register self.old register }
-    {
-        match register {
-            REG_C => self.read_flags(),
-            REG_D => VRT,
-            _ => self.registers[slot(register)],
-        }
-    }
-
-    fn write_register(&mut self, register: u8, value: u8)
-        requires { register ≤ 63 }
-        ensures { self.new ≡ rules.write_register self.old register value }
-    {
-        if register == REG_C || register == REG_D {
-            return;
-        }
-        self.registers[slot(register)] = stored(register, value);
-    }
-
-    pub(crate) fn read(&mut self, offset: u32) -> u8
-        requires { self.old.index ≤ 63 }
-        ensures { (result, self.new) ≡ rules.read self.old offset }
-    {
-        let register = self.index;
-        match offset {
-            0 => register,
-            _ => self.read_register(register),
-        }
-    }
-
-    pub(crate) fn write(&mut self, offset: u32, value: u8)
-        requires { self.old.index ≤ 63 }
-        ensures { self.new ≡ rules.write self.old offset value }
-    {
-        let register = self.index;
-        match offset {
-            0 => self.index = value % 64,
-            _ => self.write_register(register, value),
-        }
     }
 
     // Ends a second: an update runs, unless register B holds it off.
@@ -173,19 +154,21 @@ impl RtcState {
         if self.control(SET) {
             return;
         }
-        let binary = self.control(DM);
-        time::advance_second(&mut self.registers, binary);
+        let coding = Coding {
+            binary: self.control(DM),
+        };
+        time::advance_second(coding, &mut self.registers);
         self.updated = true;
     }
 
-    // Passes clock ticks, of which a second has `rate`.
-    pub(crate) fn tick(&mut self, rate: u32, ticks: u16)
-        requires { (self.old.phase < rate) × (rate < 2 ^ 31) }
-        ensures { self.new ≡ rules.tick rate self.old ticks }
+    // Passes clock ticks.
+    pub(crate) fn tick(&mut self, ticks: u16)
+        requires { self.old.phase < rules.ticks_per_second }
+        ensures { self.new ≡ rules.tick rules.ticks_per_second self.old ticks }
     {
-        self.phase += ticks as u32;
-        if self.phase >= rate {
-            self.phase -= rate;
+        self.phase += u32::from(ticks);
+        if self.phase >= RATE {
+            self.phase -= RATE;
             self.end_second();
         }
     }

@@ -1,20 +1,24 @@
 // How the clock's state travels.
-ghost use Rattle.std.specs.Prelude.{◌≡◌, length};
-ghost use Rattle.device.specs.Format.{body_size, sub_size, title as title_of, needs as needs_in, is_needed};
 ghost use Rattle.rtc.specs.Rtc.{ticks_per_second};
 ghost use Rattle.rtc.specs.Stream as stream;
+ghost use native.Mathlib.Omega.{arith};
 
-use crate::body::{FIRST, LAST};
-use crate::{RATE, Rtc, body};
+use crate::Rtc;
+use crate::body::{self, FIRST, LAST};
+use crate::state::RtcState;
 use device::Movable;
+use device::adoption::NotAdopted;
 
 // The first edition that writes the last version.
 const WRITES_LAST: u32 = 3;
 
-// There are no subsections. What is said of one by its number is said here of every number, since a contract that asks for
-// one of a table without any could never be met.
 impl Movable for Rtc {
+    // There are no subsections. What is said of one is true of one that would have no name and no fields.
+    type Subsection = ();
+
     ghost format = { stream.format ticks_per_second };
+
+    ghost numbered = { λ _. 0 };
 
     fn lawful() {}
 
@@ -26,19 +30,19 @@ impl Movable for Rtc {
         version >= FIRST && version <= Rtc::writes(edition)
     }
 
-    fn knows(edition: u32, number: u8) -> bool
-        ensures { result ≡ ((stream.format ticks_per_second).edition edition).knows number }
-    {
-        false
+    fn subsections() -> &'static [()] {
+        &[]
     }
 
-    fn subsections() -> u8 {
+    fn number(subsection: ()) -> u8 {
         0
     }
 
-    fn title(number: u8) -> &'static [u8]
-        ensures { result.now ≡ title_of (stream.format ticks_per_second) number }
-    {
+    fn knows(edition: u32, subsection: ()) -> bool {
+        false
+    }
+
+    fn title(subsection: ()) -> &'static [u8] {
         b""
     }
 
@@ -46,15 +50,11 @@ impl Movable for Rtc {
         body::size(version)
     }
 
-    fn subsection_size(number: u8) -> usize
-        ensures { result ≡ sub_size (stream.format ticks_per_second) number }
-    {
+    fn subsection_size(subsection: ()) -> usize {
         0
     }
 
-    fn needs(&self, number: u8) -> bool
-        ensures { result ≡ needs_in (stream.format ticks_per_second) self.now.state number }
-    {
+    fn needs(&self, subsection: ()) -> bool {
         false
     }
 
@@ -62,42 +62,35 @@ impl Movable for Rtc {
         self.state.left_out(version)
     }
 
+    // A body with every field begins with that of any version.
     fn write_body(&self, version: u32, out: &mut [u8]) {
-        self.state.write_body(version, out)
+        out.copy_from_slice(&self.state.body()[..body::size(version)]);
     }
 
-    fn write_subsection(&self, number: u8, out: &mut [u8])
-        requires { length out.old ≡ sub_size (stream.format ticks_per_second) number }
-        ensures { out.new ≡ (stream.format ticks_per_second).sub number self.now.state }
-    {}
+    fn write_subsection(&self, subsection: (), out: &mut [u8]) {}
 
     fn check_body(version: u32, body: &[u8]) -> Option<u16> {
-        body::check(RATE, version, body)
+        RtcState::read(&body::complete(version, body)).err()
     }
 
-    fn check_subsection(version: u32, body: &[u8], number: u8, own: &[u8]) -> Option<u16>
-        requires body_size { length body.now ≡ body_size (stream.format ticks_per_second) version }
-        requires size { length own.now ≡ sub_size (stream.format ticks_per_second) number }
-        ensures { result ≡ (stream.format ticks_per_second).check_sub version body.now number own.now }
-    {
+    fn check_subsection(version: u32, body: &[u8], subsection: (), own: &[u8]) -> Option<u16> {
         None
     }
 
-    fn is_needed(version: u32, body: &[u8], number: u8, own: &[u8]) -> bool
-        requires body_size { length body.now ≡ body_size (stream.format ticks_per_second) version }
-        requires size { length own.now ≡ sub_size (stream.format ticks_per_second) number }
-        ensures { result ≡ is_needed (stream.format ticks_per_second) version body.now number own.now }
-    {
+    fn is_needed(version: u32, body: &[u8], subsection: (), own: &[u8]) -> bool {
         false
     }
 
-    fn adopt(&mut self, version: u32, body: &[u8], subsections: &[Option<&[u8]>]) -> bool {
-        match body::adopted(RATE, version, body) {
-            Some(state) => {
-                self.state = state;
-                true
-            }
-            None => false,
-        }
+    fn adopt(
+        &mut self,
+        version: u32,
+        body: &[u8],
+        subsections: &[Option<&[u8]>],
+    ) -> Result<(), NotAdopted> {
+        let body = body::complete(version, body);
+        self.state = RtcState::read(&body).map_err(|_| NotAdopted)?;
+        Ok(())
     }
+
+    ghost known = { λ _ few. Prim.omega arith };
 }

@@ -1,8 +1,9 @@
 // Codes of numbers, and the registers that count time.
-ghost use Rattle.std.specs.Prelude.{◌≡◌, ◌-◌, ◌<◌, ◌≤◌, Some, None};
+ghost use Rattle.std.specs.Prelude.{◌≡◌, ◌-◌, ◌<◌, ◌≤◌, IfSome};
 ghost use Rattle.rtc.specs.Rtc as rules;
 
 use crate::state::Counter;
+use std::ops::Range;
 
 const SECOND: Counter = Counter {
     at: 0,
@@ -22,59 +23,60 @@ const HOUR: Counter = Counter {
     last: 23,
 };
 
-// The code of a number: its own byte if `binary`, else 16 × tens + units.
-fn code(binary: bool, n: u8) -> u8
-    requires { n < 100 }
-    ensures { result ≡ rules.code binary n }
-{
-    if binary { n } else { 16 * (n / 10) + n % 10 }
+// How numbers are coded: each by its own byte if `binary`, else by 16 × tens + units. A flag and no enum, as the rules have it.
+#[derive(Clone, Copy)]
+pub(crate) struct Coding {
+    pub(crate) binary: bool,
 }
 
-// The number from `first` to below `end` whose code a byte is.
-fn find(binary: bool, first: u8, end: u8, byte: u8) -> Option<u8>
-    requires { (first ≤ end) × (end ≤ 100) }
-    ensures is { result ≡ rules.find binary first (end - first) byte }
-    ensures below { elim result [ Some n ↦ n < end | None ↦ 0 ≤ end ] }
-{
-    let n = if binary {
-        byte
-    } else {
-        10 * (byte / 16) + byte % 16
-    };
-    if n >= first && n < end && code(binary, n) == byte {
-        Some(n)
-    } else {
-        None
+impl Coding {
+    fn code(self, n: u8) -> u8
+        requires { n < 100 }
+        ensures { result ≡ rules.code self.binary n }
+    {
+        if self.binary {
+            n
+        } else {
+            16 * (n / 10) + n % 10
+        }
+    }
+
+    // The number of a range whose code a byte is.
+    fn find(self, range: Range<u8>, byte: u8) -> Option<u8>
+        requires { range.end ≤ 100 }
+        ensures is { result ≡ rules.find self.binary range.start (range.end - range.start) byte }
+        ensures below { IfSome result (λ n. n < range.end) }
+    {
+        let n = if self.binary {
+            byte
+        } else {
+            10 * (byte / 16) + byte % 16
+        };
+        (range.contains(&n) && self.code(n) == byte).then_some(n)
     }
 }
 
-// What follows a byte, and whether that carries.
-fn next(binary: bool, first: u8, last: u8, byte: u8) -> (u8, bool)
-    requires { (first ≤ last) × (last < 100) }
-    ensures { result ≡ rules.next binary first last byte }
-{
-    match find(binary, first, last, byte) {
-        Some(n) => (code(binary, n + 1), false),
-        None => (code(binary, first), true),
+impl Counter {
+    // Moves on, and answers whether it carries: a test of its own, as an overflow is, and no success.
+    fn advance(self, coding: Coding, registers: &mut [u8; 62]) -> bool
+        requires { (self.at < 62) × (self.first < 100) × (self.last < 100) }
+        ensures carry { result ≡ (rules.next_in coding.binary self registers.old).1 }
+        ensures moved { registers.new ≡ rules.moved coding.binary self registers.old }
+    {
+        let (byte, carry) = match coding.find(self.first..self.last, registers[self.at]) {
+            Some(n) => (coding.code(n + 1), false),
+            None => (coding.code(self.first), true),
+        };
+        registers[self.at] = byte;
+        carry
     }
-}
-
-// Moves a counter on, and answers whether it carries.
-fn advance(registers: &mut [u8; 62], binary: bool, counter: Counter) -> bool
-    requires { (counter.at < 62) × ((counter.first ≤ counter.last) × (counter.last < 100)) }
-    ensures carry { result ≡ (rules.next_in binary counter registers.old).1 }
-    ensures moved { registers.new ≡ rules.moved binary counter registers.old }
-{
-    let (byte, carry) = next(binary, counter.first, counter.last, registers[counter.at]);
-    registers[counter.at] = byte;
-    carry
 }
 
 // Moves the time of day on by a second.
-pub(crate) fn advance_second(registers: &mut [u8; 62], binary: bool)
-    ensures { registers.new ≡ rules.advanced binary registers.old }
+pub(crate) fn advance_second(coding: Coding, registers: &mut [u8; 62])
+    ensures { registers.new ≡ rules.advanced coding.binary registers.old }
 {
-    if advance(registers, binary, SECOND) && advance(registers, binary, MINUTE) {
-        let _ = advance(registers, binary, HOUR);
+    if SECOND.advance(coding, registers) && MINUTE.advance(coding, registers) {
+        HOUR.advance(coding, registers);
     }
 }

@@ -1,8 +1,9 @@
 -- The dial meets its obligations.
-use Rattle.std.proofs.Common.{◌≡◌, ℕ, zero, suc, ◌<◌, ◌≤◌, Bool, true, false, cond, not, eqb, ltb, List, [], ◌∷◌, ◌++◌, length, get_or, Some, None, Option, sym, refl, ap, ◌∙◌, subst, arith, length-append}
+use Rattle.std.proofs.Common.{◌≡◌, ℕ, zero, suc, ◌<◌, ◌≤◌, Bool, true, false, cond, not, eqb, ltb, List, [], ◌∷◌, get_or, Some, None, Option, sym, refl, ap, ◌∙◌, subst, arith, rules, length-append}
 use Rattle.std.specs.List.{AllByRecursion}
 use Rattle.std.proofs.lemmas.Bool.{false≢true, lt-ltb, ltb-true, eqb-true, eq-eqb, and_parts, and_from, cond-true}
-use Rattle.device.specs.Bytes.{Bytes, bit, flag, total, differs, same}
+use Rattle.std.proofs.lemmas.Bool.Decides.{nat_tests}
+use Rattle.device.specs.Bytes.{Bytes, bit, flag, differs, same}
 use Rattle.device.specs.Format.{title, Section, Served, Takes, SubPasses, Ascending, Passes, OfBytes, needed, section_at}
 use Rattle.device.specs.Obligations.{AdoptedAs, Formed, Obligations}
 use Rattle.sample.specs.declared.state.DialState.{DialState}
@@ -23,23 +24,14 @@ at-taken P a b e v t =
     go (suc (suc zero)) l h = b
     go (suc (suc (suc v))) l h = absurd (omega arith)
 
--- fields of version 1, or of later ones
-abbrev sizes : Bool → List ℕ
-sizes first = cond first (1 ∷ []) (1 ∷ 1 ∷ [])
-
-at_fields : (P : Bool → Type 0) → P true → P false → (v : ℕ) → P (ltb v 2)
-at_fields P a b v = elim (ltb v 2) as P [ true ↦ a | false ↦ b ]
-
 title-bytes : Bytes (title dial_format 0)
-title-bytes =
-    (omega arith, (omega arith, (omega arith, (omega arith, (omega arith, (omega arith, (omega arith, (omega arith, (omega arith, (omega arith, tt))))))))))
+title-bytes = search rules
 
 dial-formed : Formed dial dial_format
 dial-formed =
     record {
       name-length = (omega arith, omega arith);
-      name-letters =
-          ((omega arith, omega arith), ((omega arith, omega arith), ((omega arith, omega arith), ((omega arith, omega arith), tt))));
+      name-letters = search rules;
       width = (omega arith, omega arith);
       few = omega arith;
       title-length = elim [ zero ↦ λ h. (omega arith, omega arith) | suc k ↦ λ h. absurd (omega arith) ];
@@ -47,60 +39,38 @@ dial-formed =
       apart = λ j k l h p. omega arith;
       since = (omega arith, omega arith);
       last = omega arith;
-      written = λ e h. at-version (λ v. v ≤ 2) (omega arith) (omega arith) e;
-      taken = λ e h. at-version (λ v. v ≤ 2) (omega arith) (omega arith) e;
-      body-small = at_fields (λ x. total (sizes x) ≤ 1024) (omega arith) (omega arith);
+      written = λ e h. grind (arith, nat_tests);
+      taken = λ e h. grind (arith, nat_tests);
+      body-small = λ v. grind (arith, nat_tests);
       sub_small = elim [ zero ↦ λ h. omega arith | suc k ↦ λ h. absurd (omega arith) ];
-      body-size = λ v s i.
-          at_fields (λ x. length (cond x (s.index ∷ []) (s.index ∷ flag s.turned ∷ [])) ≡ total (sizes x)) refl refl v;
+      body-size = λ v s i. grind (arith, nat_tests);
       sub-size = elim [ zero ↦ λ s h i. refl | suc k ↦ λ s h i. absurd (omega arith) ];
-      complete-size = λ v b.
-          at_fields (λ x. length b ≡ total (sizes x) → length (cond x (b ++ 0 ∷ []) b) ≡ 2)
-          (λ l. length-append b (0 ∷ []) ∙ omega arith) (λ l. l) v;
+      complete-size = λ v b l. grind (arith, nat_tests, length-append);
       default-size = elim [ zero ↦ λ b h l. refl | suc k ↦ λ b h l. absurd (omega arith) ];
     }
 
 -- ---- flags as bytes
 
 flag-low : (b : Bool) → flag b < 2
-flag-low true = omega arith
-flag-low false = omega arith
+flag-low b = grind (arith, nat_tests)
 
 flag-back : (b : Bool) → eqb (flag b) 1 ≡ b
 flag-back true = refl
 flag-back false = refl
 
 byte-back : (n : ℕ) → n < 2 → flag (eqb n 1) ≡ n
-byte-back zero h = refl
-byte-back (suc zero) h = refl
-byte-back (suc (suc n)) h = absurd (omega arith)
+byte-back n h = grind (arith, nat_tests)
 
 -- ---- the check
 
 check-none : (i n : ℕ) → i < 64 → n < 2 → refused (i ∷ n ∷ []) ≡ None
-check-none i n h l =
-    cond-true (ltb i 64) (cond {A = Option ℕ} (ltb n 2) None (Some 1)) (Some 0) (lt-ltb i 64 h)
-    ∙ cond-true {A = Option ℕ} (ltb n 2) None (Some 1) (lt-ltb n 2 l)
-
-some-none : (n : ℕ) → Some n ≡ None → ⊥
-some-none n h = let z : ◌≡◌ {A = ℕ} 0 1 = cc in omega arith
+check-none i n h l = grind (arith, nat_tests)
 
 checked : (i n : ℕ) → refused (i ∷ n ∷ []) ≡ None → (i < 64) × (n < 2)
-checked i n h = go (ltb i 64) (ltb n 2) refl refl h
-  where
-    go :
-        (a b : Bool) → ltb i 64 ≡ a → ltb n 2 ≡ b → cond a (cond {A = Option ℕ} b None (Some 1)) (Some 0) ≡ None
-        → (i < 64) × (n < 2)
-    go true true p q g = (ltb-true i 64 p, ltb-true n 2 q)
-    go true false p q g = absurd (some-none 1 g)
-    go false b p q g = absurd (some-none 0 g)
+checked i n h = grind (arith, nat_tests)
 
 checked-latch : (l : ℕ) → dial_format.check_sub 1 [] 0 (l ∷ []) ≡ None → l < 2
-checked-latch l h = go (ltb l 2) refl h
-  where
-    go : (a : Bool) → ltb l 2 ≡ a → cond {A = Option ℕ} a None (Some 0) ≡ None → l < 2
-    go true p g = ltb-true l 2 p
-    go false p g = absurd (some-none 0 g)
+checked-latch l h = grind (arith, nat_tests)
 
 -- ---- the needed subsections give the latch back
 

@@ -1,2 +1,1 @@
 pub mod Dials
-pub mod Latch

@@ -6,6 +6,7 @@ mod stream;
 
 ghost use Rattle.std.specs.Prelude.{◌≡◌, ◌<◌};
 ghost use Rattle.sample.specs.Dial.{dial};
+ghost use native.Mathlib.Omega.{arith};
 
 use device::Device;
 use state::DialState;
@@ -15,10 +16,8 @@ const PLACES: u8 = 64;
 
 #[derive(Drop)]
 pub struct Dial {
-    pub(crate) index: u8,
-    pub(crate) turned: bool,
-    pub(crate) latch: bool,
-    ghost small: { index < 64 },
+    state: DialState,
+    ghost small: { state.index < 64 },
 }
 
 impl Device for Dial {
@@ -26,11 +25,9 @@ impl Device for Dial {
 
     ghost kind = { dial };
 
-    ghost meaning = { λ d. record { index = d.index; turned = d.turned; latch = d.latch } };
+    ghost meaning = { λ d. d.state };
 
     fn closed() {}
-
-    fn sound(&self) {}
 
     fn name() -> &'static [u8] {
         b"dial"
@@ -45,7 +42,7 @@ impl Device for Dial {
     }
 
     fn reset(&mut self) {
-        *self = Dial {
+        self.state = DialState {
             index: 0,
             turned: false,
             latch: false,
@@ -53,12 +50,12 @@ impl Device for Dial {
     }
 
     fn read(&mut self, offset: u32) -> u8 {
-        self.index
+        self.state.index
     }
 
     fn write(&mut self, offset: u32, byte: u8) -> Option<u8> {
-        self.index = byte % PLACES;
-        self.turned = true;
+        self.state.index = byte % PLACES;
+        self.state.turned = true;
         None
     }
 
@@ -68,10 +65,14 @@ impl Device for Dial {
     {}
 
     fn tick(&mut self, ticks: u16) {
-        self.latch = true;
+        self.state.latch = true;
     }
 
     fn line(&self) -> bool {
-        self.turned
+        self.state.turned
     }
+
+    ghost span = { (Prim.omega arith, Prim.omega arith) };
+
+    ghost sound = { λ d. d.small };
 }

@@ -1,12 +1,17 @@
 // How the dial's state travels.
-ghost use Rattle.std.specs.Prelude.{◌≡◌, ◌<◌, length, None as nothing, slice_index};
+ghost use Rattle.std.specs.Prelude.{◌≡◌, ◌<◌, length, slice_index, IfOk};
+ghost use Rattle.std.specs.Result.{result_err};
 ghost use Rattle.device.specs.Format.{body_size};
 ghost use Rattle.device.specs.Table.{Table, standing};
 ghost use Rattle.sample.specs.Dial as rules;
+ghost use native.Mathlib.Omega.{arith};
 
+use crate::state::{DialState, DialSubsection};
 use crate::{Dial, PLACES};
 use device::Movable;
+use device::adoption::NotAdopted;
 use device::bits::bit;
+use device::bytes::padded;
 
 // The versions: the last has every field.
 const FIRST: u32 = 1;
@@ -19,7 +24,7 @@ const WRITES_LAST: u32 = 3;
 // The first edition that knows dial/latch.
 const KNOWS_LATCH: u32 = 2;
 
-// The fields of a body.
+// The fields of a body, each of a byte, so that a field's number is its place. No From leads from a place to a number: `as`.
 const INDEX: usize = 0;
 
 const TURNED: usize = 1;
@@ -38,26 +43,20 @@ fn complete(version: u32, body: &[u8]) -> [u8; END]
     requires { length body.now ≡ body_size rules.dial_format version }
     ensures { result ≡ rules.complete version body.now }
 {
-    let mut complete = [0; END];
-    if version < LAST {
-        complete[..TURNED].copy_from_slice(body);
-    } else {
-        complete.copy_from_slice(body);
-    }
-    complete
+    padded(body)
 }
 
-// The first refused field of a complete body; the index of one that passes is small.
-fn refused(body: [u8; END]) -> Option<u16>
-    ensures value { result ≡ rules.refused body }
-    ensures small { result ≡ nothing → slice_index body 0 < 64 }
+// Passes a complete body, or answers its first refused field; the index of one that passes is small.
+fn check(body: [u8; END]) -> Result<(), u16>
+    ensures value { result_err result ≡ rules.refused body }
+    ensures small { IfOk result (λ _. slice_index body 0 < 64) }
 {
     if body[INDEX] >= PLACES {
-        Some(INDEX as u16)
+        Err(INDEX as u16)
     } else if body[TURNED] > FLAG_MAX {
-        Some(TURNED as u16)
+        Err(TURNED as u16)
     } else {
-        None
+        Ok(())
     }
 }
 
@@ -79,7 +78,11 @@ fn latch_of(body: [u8; END], subsections: &[Option<&[u8]>]) -> bool
 }
 
 impl Movable for Dial {
+    type Subsection = DialSubsection;
+
     ghost format = { rules.dial_format };
+
+    ghost numbered = { λ _. 0 };
 
     fn lawful() {}
 
@@ -91,76 +94,94 @@ impl Movable for Dial {
         version >= FIRST && version <= Dial::writes(edition)
     }
 
-    fn knows(edition: u32, number: u8) -> bool {
-        edition >= KNOWS_LATCH
+    fn subsections() -> &'static [DialSubsection] {
+        &[DialSubsection::Latch]
     }
 
-    fn subsections() -> u8 {
-        1
+    fn number(subsection: DialSubsection) -> u8 {
+        subsection as u8
     }
 
-    fn title(number: u8) -> &'static [u8] {
-        b"dial/latch"
+    fn knows(edition: u32, subsection: DialSubsection) -> bool {
+        match subsection {
+            DialSubsection::Latch => edition >= KNOWS_LATCH,
+        }
+    }
+
+    fn title(subsection: DialSubsection) -> &'static [u8] {
+        match subsection {
+            DialSubsection::Latch => b"dial/latch",
+        }
     }
 
     fn body_size(version: u32) -> usize {
         if version < LAST { TURNED } else { END }
     }
 
-    fn subsection_size(number: u8) -> usize {
-        LATCH_SIZE
+    fn subsection_size(subsection: DialSubsection) -> usize {
+        match subsection {
+            DialSubsection::Latch => LATCH_SIZE,
+        }
     }
 
-    fn needs(&self, number: u8) -> bool {
-        self.latch != bit(0, self.index)
+    fn needs(&self, subsection: DialSubsection) -> bool {
+        match subsection {
+            DialSubsection::Latch => self.state.latch != bit(0, self.state.index),
+        }
     }
 
     fn off_default(&self, version: u32) -> Option<u16> {
-        if version < LAST && self.turned {
-            Some(TURNED as u16)
-        } else {
-            None
-        }
+        (version < LAST && self.state.turned).then_some(TURNED as u16)
     }
 
+    // A body with every field begins with that of any version.
     fn write_body(&self, version: u32, out: &mut [u8]) {
-        if version < LAST {
-            out.copy_from_slice(&[self.index]);
-        } else {
-            out.copy_from_slice(&[self.index, u8::from(self.turned)]);
-        }
+        let body = [self.state.index, u8::from(self.state.turned)];
+        out.copy_from_slice(&body[..Dial::body_size(version)]);
     }
 
-    fn write_subsection(&self, number: u8, out: &mut [u8]) {
-        out.copy_from_slice(&[u8::from(self.latch)]);
+    fn write_subsection(&self, subsection: DialSubsection, out: &mut [u8]) {
+        match subsection {
+            DialSubsection::Latch => out.copy_from_slice(&[u8::from(self.state.latch)]),
+        }
     }
 
     fn check_body(version: u32, body: &[u8]) -> Option<u16> {
-        refused(complete(version, body))
+        check(complete(version, body)).err()
     }
 
-    fn check_subsection(version: u32, body: &[u8], number: u8, own: &[u8]) -> Option<u16> {
-        if own[LATCH] > FLAG_MAX {
-            Some(LATCH as u16)
-        } else {
-            None
+    fn check_subsection(
+        version: u32,
+        body: &[u8],
+        subsection: DialSubsection,
+        own: &[u8],
+    ) -> Option<u16> {
+        match subsection {
+            DialSubsection::Latch => (own[LATCH] > FLAG_MAX).then_some(LATCH as u16),
         }
     }
 
-    fn is_needed(version: u32, body: &[u8], number: u8, own: &[u8]) -> bool {
-        own[LATCH] != u8::from(usual(complete(version, body)))
+    fn is_needed(version: u32, body: &[u8], subsection: DialSubsection, own: &[u8]) -> bool {
+        match subsection {
+            DialSubsection::Latch => own[LATCH] != u8::from(usual(complete(version, body))),
+        }
     }
 
-    fn adopt(&mut self, version: u32, body: &[u8], subsections: &[Option<&[u8]>]) -> bool {
+    fn adopt(
+        &mut self,
+        version: u32,
+        body: &[u8],
+        subsections: &[Option<&[u8]>],
+    ) -> Result<(), NotAdopted> {
         let body = complete(version, body);
-        if refused(body).is_some() {
-            return false;
-        }
-        *self = Dial {
+        check(body).map_err(|_| NotAdopted)?;
+        self.state = DialState {
             index: body[INDEX],
             turned: body[TURNED] == 1,
             latch: latch_of(body, subsections),
         };
-        true
+        Ok(())
     }
+
+    ghost known = { λ _ _. Prim.omega arith };
 }

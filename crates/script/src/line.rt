@@ -28,7 +28,7 @@ pub enum Command<'a> {
 }
 
 // Reads a line: a command, or none where it is empty or only a comment.
-pub fn read_line<'a>(line: &'a str) -> Result<Option<Command<'a>>, Mistake<'a>> {
+pub fn read_line(line: &str) -> Result<Option<Command<'_>>, Mistake<'_>> {
     let mut words = Words::of(line);
     let Some(word) = words.next() else {
         return Ok(None);
@@ -49,10 +49,9 @@ pub fn read_line<'a>(line: &'a str) -> Result<Option<Command<'a>>, Mistake<'a>> 
 
 fn board<'a>(words: &mut Words<'a>) -> Result<Command<'a>, Mistake<'a>> {
     let name = words.word("the board's name")?;
-    match words.next() {
-        Some("running") => Ok(Command::Board { name }),
-        Some(word) => Err(Mistake::NotAState(word)),
-        None => Err(Mistake::Missing("`running`")),
+    match words.word("`running`")? {
+        "running" => Ok(Command::Board { name }),
+        word => Err(Mistake::NotAState(word)),
     }
 }
 
@@ -65,27 +64,27 @@ fn save<'a>(words: &mut Words<'a>) -> Result<Command<'a>, Mistake<'a>> {
 }
 
 fn call<'a>(word: &'a str, words: &mut Words<'a>) -> Result<Call, Mistake<'a>> {
-    match word {
-        "read" => Ok(Call::Read {
+    Ok(match word {
+        "read" => Call::Read {
             address: words.number("the address")?,
-        }),
-        "write" => Ok(Call::Write {
-            address: words.number("the address")?,
-            byte: words.byte()?,
-        }),
-        "feed" => Ok(Call::Feed {
+        },
+        "write" => Call::Write {
             address: words.number("the address")?,
             byte: words.byte()?,
-        }),
-        "tick" => Ok(Call::Tick {
+        },
+        "feed" => Call::Feed {
+            address: words.number("the address")?,
+            byte: words.byte()?,
+        },
+        "tick" => Call::Tick {
             ticks: words.number("the number of ticks")?,
-        }),
-        "lines" => Ok(Call::Lines),
-        _ => Err(Mistake::UnknownCall(word)),
-    }
+        },
+        "lines" => Call::Lines,
+        _ => return Err(Mistake::UnknownCall(word)),
+    })
 }
 
-// A command as a line that asks for it.
+// A command as a line that asks for it. The words of a call stand here and not with `Call`, beside those that are read above.
 impl fmt::Display for Command<'_> {
     fn fmt<W: fmt::Write>(&self, f: &mut fmt::Formatter<W>) -> fmt::Result {
         match *self {

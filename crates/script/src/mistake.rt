@@ -1,35 +1,21 @@
 // Why a line is no call.
-use std::fmt;
+use thiserror::Error;
 
-#[derive(Clone, Copy)]
+#[derive(Clone, Copy, Debug, Error)]
 pub enum Mistake<'a> {
+    #[error("`{0}` is no call")]
     UnknownCall(&'a str),
     // What is missing at the end of the line.
+    #[error("{0} is missing")]
     Missing(&'static str),
+    #[error("`{0}` is no number: write digits, or hexadecimal ones after 0x")]
     NotANumber(&'a str),
+    #[error("`{0}` is too large: the greatest number is {greatest}", greatest = u32::MAX)]
     TooLarge(&'a str),
+    #[error("`{0}` is no byte: the greatest is 255")]
     NotAByte(&'a str),
+    #[error("a board is made `running`, not `{0}`")]
     NotAState(&'a str),
+    #[error("`{0}` is a word too many")]
     TooManyWords(&'a str),
-}
-
-impl fmt::Display for Mistake<'_> {
-    fn fmt<W: fmt::Write>(&self, f: &mut fmt::Formatter<W>) -> fmt::Result {
-        match *self {
-            Mistake::UnknownCall(word) => write!(f, "`{word}` is no call"),
-            Mistake::Missing(what) => write!(f, "{what} is missing"),
-            Mistake::NotANumber(word) => write!(
-                f,
-                "`{word}` is no number: write digits, or hexadecimal ones after 0x"
-            ),
-            Mistake::TooLarge(word) => write!(
-                f,
-                "`{word}` is too large: the greatest number is {}",
-                u32::MAX
-            ),
-            Mistake::NotAByte(word) => write!(f, "`{word}` is no byte: the greatest is 255"),
-            Mistake::NotAState(word) => write!(f, "a board is made `running`, not `{word}`"),
-            Mistake::TooManyWords(word) => write!(f, "`{word}` is a word too many"),
-        }
-    }
 }

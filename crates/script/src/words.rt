@@ -11,10 +11,7 @@ pub struct Words<'a> {
 impl<'a> Words<'a> {
     // The words of a line before its comment, which begins with `#`.
     pub fn of(line: &'a str) -> Words<'a> {
-        let text = match line.split_once('#') {
-            Some((before, _)) => before,
-            None => line,
-        };
+        let text = line.split_once('#').map_or(line, |(before, _)| before);
         Words {
             rest: text.split_whitespace(),
         }
@@ -26,10 +23,7 @@ impl<'a> Words<'a> {
 
     // The next word, or what is missing.
     pub fn word(&mut self, what: &'static str) -> Result<&'a str, Mistake<'a>> {
-        match self.next() {
-            Some(word) => Ok(word),
-            None => Err(Mistake::Missing(what)),
-        }
+        self.next().ok_or(Mistake::Missing(what))
     }
 
     // The next word as a number.
@@ -44,35 +38,26 @@ impl<'a> Words<'a> {
 
     // Refuses a word that is left over.
     pub fn end(&mut self) -> Result<(), Mistake<'a>> {
-        match self.next() {
-            None => Ok(()),
-            Some(word) => Err(Mistake::TooManyWords(word)),
-        }
+        self.next()
+            .map_or(Ok(()), |word| Err(Mistake::TooManyWords(word)))
     }
 }
 
 // The number that a word stands for.
-fn number<'a>(word: &'a str) -> Result<u32, Mistake<'a>> {
-    let (digits, radix) = match word.strip_prefix("0x") {
-        Some(digits) => (digits, 16),
-        None => (word, 10),
-    };
+fn number(word: &str) -> Result<u32, Mistake<'_>> {
+    let (digits, radix) = word
+        .strip_prefix("0x")
+        .map_or((word, 10), |digits| (digits, 16));
     if digits.starts_with('+') {
         return Err(Mistake::NotANumber(word));
     }
-    match u32::from_str_radix(digits, radix) {
-        Ok(n) => Ok(n),
-        Err(e) => match e.kind() {
-            IntErrorKind::PosOverflow => Err(Mistake::TooLarge(word)),
-            _ => Err(Mistake::NotANumber(word)),
-        },
-    }
+    u32::from_str_radix(digits, radix).map_err(|e| match e.kind() {
+        IntErrorKind::PosOverflow => Mistake::TooLarge(word),
+        _ => Mistake::NotANumber(word),
+    })
 }
 
 // The byte that a word stands for.
-fn byte<'a>(word: &'a str) -> Result<u8, Mistake<'a>> {
-    match u8::try_from(number(word)?) {
-        Ok(byte) => Ok(byte),
-        Err(_) => Err(Mistake::NotAByte(word)),
-    }
+fn byte(word: &str) -> Result<u8, Mistake<'_>> {
+    u8::try_from(number(word)?).map_err(|_| Mistake::NotAByte(word))
 }

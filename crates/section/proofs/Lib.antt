@@ -1,6 +1,7 @@
 pub mod Comparing
 pub mod Counting
 pub mod Sizes
+pub mod Numbered
 pub mod Subsections
 pub mod Unknown
 pub mod Writes

@@ -1,5 +1,5 @@
 -- The first needed subsection that an edition does not know, found number by number.
-use Rattle.std.proofs.Common.{◌≡◌, ℕ, suc, ◌+◌, ◌-◌, ◌<◌, true, false, cond, not, ◌&&◌, Some, Option, sym, ap, ◌∙◌, add-one, arith}
+use Rattle.std.proofs.Common.{◌≡◌, ℕ, suc, ◌+◌, ◌-◌, ◌<◌, ◌≤◌, true, false, cond, not, ◌&&◌, Some, None, Option, sym, ap, ◌∙◌, add-one, arith}
 use Rattle.std.proofs.lemmas.Bool.{cond-true, cond-false, and_from, and_left, and_right, not_from_true, not_from_false}
 use Rattle.device.specs.Format.{Format, needs, unknown_from}
 
@@ -22,3 +22,6 @@ module _ {S : Type 0} (f : Format S) (e : ℕ) (s : S) where
 
   pub from-known : (n k : ℕ) → k < n → (f.edition e).knows k ≡ true → from n k ≡ from n (k + 1)
   from-known n k h u = from_step n k h ∙ cond-false _ (Some k) _ (and_right (needs f s k) _ (not_from_true _ u))
+
+  pub from-end : (n k : ℕ) → n ≤ k → from n k ≡ None
+  from-end n k h = let none : n - k ≡ 0 = omega arith in ap (unknown_from f e s k) none

@@ -1,5 +1,5 @@
 -- Why a save is refused for a leaf.
-use Rattle.std.specs.Prelude.{ℕ, Some, None, Option}
+use Rattle.std.specs.Prelude.{ℕ, Some, None, Ok, Err, Option, Result}
 use Rattle.device.specs.Format.{Format, off_default, unknown}
 use Rattle.fault.specs.declared.Fault.{Fault}
 use Rattle.fault.specs.declared.Fault.TheVariants as fault
@@ -14,3 +14,8 @@ lacking n None None = None
 -- writes, else the first needed subsection that e does not know.
 abbrev pub refusal : {S : Type 0} → Format S → ℕ → ℕ → S → Option Fault
 refusal f n e s = lacking n (off_default f (f.edition e).writes s) (unknown f e s)
+
+-- a refusal, or none, as the result of a test
+abbrev pub result_of : Option Fault → Result (Unit {0}) Fault
+result_of (Some F) = Err F
+result_of None = Ok tt

@@ -5,6 +5,5 @@ pub mod buffer;
 pub mod carrying;
 pub mod marks;
 pub mod names;
-pub mod numbering;
 pub mod size;
 pub mod writing;

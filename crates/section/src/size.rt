@@ -16,11 +16,10 @@ pub fn section_size<D: Movable>(device: &D, edition: u32) -> usize
     ensures bound { result ≤ 10000 }
 {
     D::lawful();
-    device.sound();
     let mut n = SECTION_FRAME + D::name().len() + D::body_size(D::writes(edition));
-    for number in 0..D::subsections() {
-        if device.needs(number) {
-            n += SUBSECTION_FRAME + D::title(number).len() + D::subsection_size(number);
+    for subsection in D::subsections() {
+        if device.needs(*subsection) {
+            n += SUBSECTION_FRAME + D::title(*subsection).len() + D::subsection_size(*subsection);
         }
     }
     n

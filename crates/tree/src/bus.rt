@@ -1,4 +1,5 @@
 // Two trees side by side.
+ghost use native.Mathlib.Omega.{arith};
 ghost use Rattle.std.specs.Prelude.{◌≡◌, ◌+◌, ◌-◌, ◌*◌, ◌%◌, ◌^◌, ◌≤◌};
 ghost use Rattle.std.specs.Option.{SomeIff};
 ghost use Rattle.tree.specs.Calls.{bus_calls};
@@ -23,16 +24,13 @@ impl<L, R> Bus<L, R> {
     }
 }
 
-// The address inside the right tree of a bus over L, or none where the address is the left tree's.
+// The address inside the right tree of a bus over L, or none where the address is the left tree's. Here and below `as` narrows
+// what is known to fit, since no From does.
 fn beyond<L: Node>(address: u32) -> Option<u32>
     ensures { SomeIff result (width L.Node.model ≤ address) (address - width L.Node.model) }
 {
-    let left = L::width();
-    if u64::from(address) < left {
-        None
-    } else {
-        Some(address - left as u32)
-    }
+    let rest = u64::from(address).checked_sub(L::width())?;
+    Some(rest as u32)
 }
 
 // The lines of two trees side by side, of the first sixteen leaves.
@@ -61,11 +59,6 @@ impl<L: Node, R: Node> Node for Bus<L, R> {
     fn closed() {
         L::closed();
         R::closed();
-    }
-
-    fn sound(&self) {
-        self.left.sound();
-        self.right.sound();
     }
 
     fn leaves() -> u64 {
@@ -128,11 +121,9 @@ impl<L: Node, R: Node> Node for Bus<L, R> {
         lines_beside(&self.left, &self.right)
     }
 
-    fn refusal(&self, first: u8, edition: u32) -> Option<Fault> {
-        match self.left.refusal(first, edition) {
-            Some(fault) => Some(fault),
-            None => self.right.refusal(first + L::leaves() as u8, edition),
-        }
+    fn carried(&self, first: u8, edition: u32) -> Result<(), Fault> {
+        self.left.carried(first, edition)?;
+        self.right.carried(first + L::leaves() as u8, edition)
     }
 
     fn sections_size(&self, edition: u32) -> usize {
@@ -144,4 +135,8 @@ impl<L: Node, R: Node> Node for Bus<L, R> {
         let n = self.left.write_sections(edition, before, out);
         n + self.right.write_sections(edition, before, &mut out[n..])
     }
+
+    ghost addressed = { omega (arith, L.Node.addressed, R.Node.addressed) };
+
+    ghost sound = { λ bus. (L.Node.sound bus.left, R.Node.sound bus.right) };
 }

@@ -39,12 +39,7 @@ impl<D: Movable> Node for Leaf<D> {
         D::closed();
     }
 
-    fn sound(&self) {
-        self.device.sound();
-    }
-
     fn leaves() -> u64 {
-        let _ = D::width();
         1
     }
 
@@ -84,8 +79,8 @@ impl<D: Movable> Node for Leaf<D> {
         u16::from(self.device.line())
     }
 
-    fn refusal(&self, first: u8, edition: u32) -> Option<Fault> {
-        carrying::refusal(&self.device, first, edition)
+    fn carried(&self, first: u8, edition: u32) -> Result<(), Fault> {
+        carrying::carried(&self.device, first, edition)
     }
 
     fn sections_size(&self, edition: u32) -> usize {
@@ -97,4 +92,8 @@ impl<D: Movable> Node for Leaf<D> {
         before.push(D::name());
         n
     }
+
+    ghost addressed = { D.Device.span.0 };
+
+    ghost sound = { λ leaf. D.Device.sound leaf.device };
 }

@@ -1,7 +1,7 @@
 // What code over any tree of devices can ask of it.
 ghost use Rattle.std.specs.Prelude.{◌≡◌, ◌+◌, ◌*◌, ◌%◌, ◌<◌, ◌≤◌, min, true, ◌++◌, length};
+ghost use Rattle.section.specs.Carrying.{result_of};
 ghost use Rattle.section.specs.Layout.{over};
-ghost use Rattle.section.specs.Names.{listed};
 ghost use Rattle.tree.specs.Carrying.{uncarried};
 ghost use Rattle.tree.specs.Calls.{Calls, Keeps};
 ghost use Rattle.tree.specs.Stream.{written, layout, size as size_of, names as names_of};
@@ -22,7 +22,8 @@ pub trait Node {
     // The state that its devices are in.
     ghost state: { Self → State model };
 
-    // Does nothing: it promises that every device of the tree meets its obligations.
+    // Does nothing: it promises that every device of the tree meets its obligations. It is no law, as `lawful` of a device is
+    // none, nor is `closed`.
     fn lawful()
         ensures { Lawful model };
 
@@ -30,20 +31,16 @@ pub trait Node {
     fn closed()
         ensures { Keeps model calls };
 
-    // Does nothing: it promises that every device is in a sound state.
-    fn sound(&self)
-        ensures { Sound model (state self.now) };
-
     // The number of leaves, or the greatest that the type holds.
     fn leaves() -> u64
-        ensures value { result ≡ min (on.leaves model) 18446744073709551615 }
-        ensures few { on.leaves model ≤ on.width model };
+        ensures { result ≡ min (on.leaves model) 18446744073709551615 };
 
     // The number of addresses, or the greatest that the type holds.
     fn width() -> u64
         ensures { result ≡ min (on.width model) 18446744073709551615 };
 
-    // The leaf that an address belongs to, and the offset inside it.
+    // The leaf that an address belongs to, and the offset inside it. Here and below an address stays a number with a
+    // `requires`: in a struct `Address<Self>` that keeps it below the width, each `impl` had to write these clauses again.
     fn route(address: u32) -> (u32, u32)
         requires { address < on.width model }
         ensures value { result ≡ on.route model address }
@@ -80,11 +77,11 @@ pub trait Node {
     fn lines(&self) -> u16
         ensures { result ≡ on.lines model (state self.now) % 65536 };
 
-    // Why an edition does not carry the state, by the first leaf whose state it does not carry. `first` leaves stand before
-    // the tree.
-    fn refusal(&self, first: u8, edition: u32) -> Option<Fault>
+    // Refuses an edition that does not carry the state, by the first leaf whose state it does not carry. `first` leaves stand
+    // before the tree.
+    fn carried(&self, first: u8, edition: u32) -> Result<(), Fault>
         requires { first + on.leaves model ≤ 16 }
-        ensures { result ≡ uncarried model first edition (state self.now) };
+        ensures { result ≡ result_of (uncarried model first edition (state self.now)) };
 
     // How many bytes the sections have, which the leaves before do not change.
     fn sections_size(&self, edition: u32) -> usize
@@ -94,10 +91,16 @@ pub trait Node {
 
     // Writes a section for each leaf to the front of a buffer, and adds the leaves' names to those before.
     fn write_sections(&self, edition: u32, before: &mut NamesBefore, out: &mut [u8]) -> usize
-        requires few { length (listed before.old) + on.leaves model ≤ 16 }
+        requires few { length before.old + on.leaves model ≤ 16 }
         requires room { size_of model (written model edition (state self.now)) ≤ length out.old }
-        ensures count { result ≡ length (layout model (listed before.old) (written model edition (state self.now))) }
+        ensures count { result ≡ length (layout model before.old (written model edition (state self.now))) }
         ensures size { result ≡ size_of model (written model edition (state self.now)) }
-        ensures buffer { out.new ≡ over (layout model (listed before.old) (written model edition (state self.now))) out.old }
-        ensures names { listed before.new ≡ listed before.old ++ names_of model };
+        ensures buffer { out.new ≡ over (layout model before.old (written model edition (state self.now))) out.old }
+        ensures names { before.new ≡ before.old ++ names_of model };
+
+    // A leaf has an address at least.
+    ghost addressed: { on.leaves model ≤ on.width model };
+
+    // Every device of a tree is in a sound state.
+    ghost sound: { (tree : Self) → Sound model (state tree) };
 }

@@ -1,8 +1,10 @@
 -- Flags as bytes, lists that are the same, and fields that have passed a check.
-use Rattle.std.proofs.Common.{◌≡◌, ℕ, zero, suc, ◌+◌, ◌<◌, ◌≤◌, Bool, true, false, cond, not, eqb, leb, List, [], ◌∷◌, length, get_or, drop, replicate, Some, None, Option, sym, refl, ap, ◌∙◌, arith}
+use Rattle.std.proofs.Common.{◌≡◌, ℕ, zero, suc, ◌+◌, ◌≤◌, Bool, true, false, cond, not, eqb, leb, List, [], ◌∷◌, length, get_or, replicate, Some, None, Option, sym, refl, ap, ◌∙◌, arith}
 use mir.Val.{bool_byte}
-use Rattle.std.proofs.lemmas.List.{at_drop_more, at_drop_all}
-use Rattle.std.proofs.lemmas.Bool.{false≢true, and_from, and_parts, eq-eqb, ne_eqb, eqb-true, leb-true, not-false}
+use Rattle.std.specs.List.{position, position_from}
+use Rattle.std.specs.Option.{option_map}
+use Rattle.std.proofs.lemmas.Iterator.Adapters.{position_from-zero}
+use Rattle.std.proofs.lemmas.Bool.{false≢true, and_from, and_parts, eq-eqb, eqb-true, leb-true, not-false}
 use Rattle.device.specs.Bytes.{flag, same, differs}
 use Rattle.uart.specs.Stream.{within, zeros}
 
@@ -61,14 +63,18 @@ zeros-all k (x ∷ xs) h =
     let p = chosen (eqb x 0) k (zeros (k + 1) xs) h in
     λ i. eqb-true x 0 p.0 i ∷ zeros-all (k + 1) xs p.1 i
 
--- the fields from place i on, one by one
-module _ (i : ℕ) (xs : List ℕ) where
-  pub zeros-more : i < length xs → get_or xs i 0 ≡ 0 → zeros i (drop i xs) ≡ zeros (i + 1) (drop (i + 1) xs)
-  zeros-more h e = at_drop_more (zeros i) xs i 0 h ∙ ap (λ x. cond (eqb x 0) (zeros (i + 1) (drop (i + 1) xs)) (Some i)) e
+-- the first that is not 0, by its place
+places : (k i : ℕ) (xs : List ℕ) → option_map (λ j. k + j) (position_from (λ x. not (eqb x 0)) i xs) ≡ zeros (k + i) xs
+places k i [] = refl
+places k i (x ∷ xs) =
+    let rest : option_map (λ j. k + j) (position_from (λ y. not (eqb y 0)) (i + 1) xs) ≡ zeros (k + i + 1) xs =
+    places k (i + 1) xs ∙ ap (λ n. zeros n xs) (omega arith) in
+    elim (eqb x 0) as (λ t. option_map (λ j. k + j) (cond (not t) (Some i) (position_from (λ y. not (eqb y 0)) (i + 1) xs)) ≡ cond t (zeros (k + i + 1) xs) (Some (k + i))) [
+      | true ↦ rest
+      | false ↦ refl
+    ]
 
-  pub zeros-stop : i < length xs → (get_or xs i 0 ≡ 0 → ⊥) → zeros i (drop i xs) ≡ Some i
-  zeros-stop h n =
-      at_drop_more (zeros i) xs i 0 h ∙ ap (λ t. cond t (zeros (i + 1) (drop (i + 1) xs)) (Some i)) (ne_eqb (get_or xs i 0) 0 n)
-
-  pub zeros-end : length xs ≤ i → zeros i (drop i xs) ≡ None
-  zeros-end h = at_drop_all (zeros i) xs i h
+pub zeros-place :
+    (k : ℕ) (xs : List ℕ) (found : Option ℕ) → found ≡ position (λ x. not (eqb x 0)) xs → option_map (λ j. k + j) found ≡ zeros k xs
+zeros-place k xs found e =
+    ap (option_map (λ j. k + j)) (e ∙ position_from-zero (λ x. not (eqb x 0)) xs) ∙ places k 0 xs ∙ ap (λ n. zeros n xs) (omega arith)

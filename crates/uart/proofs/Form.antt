@@ -1,6 +1,8 @@
 -- The form of the serial port: its name, its subsections' names, the sizes of what it writes.
-use Rattle.std.proofs.Common.{◌≡◌, ℕ, zero, suc, ◌<◌, ◌≤◌, Bool, true, ◌&&◌, ltb, leb, List, [], ◌∷◌, length, refl, ap, arith}
-use Rattle.std.specs.List.{AllByRecursion}
+use Rattle.std.proofs.Common.{◌≡◌, ℕ, zero, suc, ◌<◌, ◌≤◌, Bool, true, ◌&&◌, ltb, leb, List, length, refl, ap, arith}
+use Rattle.std.specs.List.{AllByRecursion, list_all}
+use Rattle.std.proofs.lemmas.List.Elements.{All-weaker, recursion_from_All}
+use Rattle.std.proofs.lemmas.List.Sums.{AllPass-from_list_all}
 use Rattle.std.proofs.lemmas.Bool.{and_parts, ltb-true, leb-true}
 use Rattle.device.specs.Bytes.{Bytes}
 use Rattle.device.specs.Format.{count, title, sub_size}
@@ -11,21 +13,14 @@ use Rattle.uart.specs.declared.state.UartState.{UartState}
 use Rattle.uart.proofs.Numbers.{numbers}
 use Rattle.uart.proofs.Padded.{capacity-le, padded-size}
 
--- a test of each number of a list
-abbrev each : (ℕ → Bool) → List ℕ → Bool
-each p [] = true
-each p (x ∷ xs) = p x && each p xs
+-- what holds of each number that passes a test
+tested : (p : ℕ → Bool) (P : ℕ → Type 0) → ((x : ℕ) → p x ≡ true → P x) → (xs : List ℕ) → list_all p xs ≡ true → AllByRecursion P xs
+tested p P f xs h = recursion_from_All P xs (All-weaker (λ x. p x ≡ true) P f xs (AllPass-from_list_all p xs h))
 
-tested : (p : ℕ → Bool) (P : ℕ → Type 0) → ((x : ℕ) → p x ≡ true → P x) → (xs : List ℕ) → each p xs ≡ true → AllByRecursion P xs
-tested p P f [] h = tt
-tested p P f (x ∷ xs) h =
-    let q = and_parts (p x) (each p xs) h in
-    (f x q.0, tested p P f xs q.1)
-
-bytes : (xs : List ℕ) → each (λ b. ltb b 256) xs ≡ true → Bytes xs
+bytes : (xs : List ℕ) → list_all (λ b. ltb b 256) xs ≡ true → Bytes xs
 bytes xs h = tested (λ b. ltb b 256) (λ b. b < 256) (λ b. ltb-true b 256) xs h
 
-letters : (xs : List ℕ) → each (λ c. leb 0x61 c && leb c 0x7a) xs ≡ true → AllByRecursion (λ c. (0x61 ≤ c) × (c ≤ 0x7a)) xs
+letters : (xs : List ℕ) → list_all (λ c. leb 0x61 c && leb c 0x7a) xs ≡ true → AllByRecursion (λ c. (0x61 ≤ c) × (c ≤ 0x7a)) xs
 letters xs h =
     tested (λ c. leb 0x61 c && leb c 0x7a) (λ c. (0x61 ≤ c) × (c ≤ 0x7a))
     (λ c e. let q = and_parts (leb 0x61 c) (leb c 0x7a) e in (leb-true 0x61 c q.0, leb-true c 0x7a q.1)) xs h

@@ -1,5 +1,5 @@
 -- How many bytes stand in a ring and which, what a byte written after them adds, and what is left without the first.
-use Rattle.std.proofs.Common.{◌≡◌, ℕ, zero, suc, ◌+◌, ◌-◌, ◌%◌, ◌<◌, ◌≤◌, ◌≢◌, List, [], ◌∷◌, ◌++◌, length, get_or, drop, set, sym, refl, ap, ◌∙◌, add-one, arith, get_or-set_other, get_or-set_same}
+use Rattle.std.proofs.Common.{◌≡◌, ℕ, zero, suc, ◌+◌, ◌%◌, ◌<◌, ◌≤◌, ◌≢◌, List, [], ◌∷◌, ◌++◌, length, get_or, set, sym, refl, ap, ◌∙◌, add-one, arith, get_or-set_other, get_or-set_same}
 use Rattle.std.proofs.lemmas.List.{get_or_past}
 use Rattle.uart.specs.Ring.{around}
 
@@ -21,15 +21,6 @@ module _ (xs : List ℕ) (b : ℕ) (all : length xs ≡ 16) where
 
   pub around-push : (h n : ℕ) → h < 16 → n < 16 → around (set xs ((h + n) % 16) b) h (n + 1) ≡ around xs h n ++ b ∷ []
   around-push h n p q = rw add-one (push_at h n ((h + n) % 16) p q refl)
-
-module _ (xs : List ℕ) (h : ℕ) where
-  pub around-first : (n : ℕ) → n ≢ 0 → get_or xs h 0 ≡ get_or (around xs h n) 0 0
-  around-first zero z = absurd (z refl)
-  around-first (suc n) z = refl
-
-  pub around-rest : (n : ℕ) → n ≢ 0 → around xs ((h + 1) % 16) (n - 1) ≡ drop 1 (around xs h n)
-  around-rest zero z = absurd (z refl)
-  around-rest (suc n) z = ap (around xs ((h + 1) % 16)) (omega arith)
 
 module _ (xs : List ℕ) where
   pub around-at : (h n i : ℕ) → h < 16 → i < n → get_or xs ((h + i) % 16) 0 ≡ get_or (around xs h n) i 0

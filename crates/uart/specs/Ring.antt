@@ -1,6 +1,6 @@
 -- The bytes that a queue holds, and how they are written out.
 use Rattle.std.specs.Prelude.{ℕ, zero, suc, ◌+◌, ◌-◌, ◌%◌, List, [], ◌∷◌, ◌++◌, length, replicate, slice_index}
-use Rattle.uart.specs.declared.queue.Queue.{Queue}
+use Rattle.uart.specs.declared.queue.Queue.TheInside.{Inside}
 
 -- the n bytes from place h of 16 on; after the last place comes the first
 abbrev pub around : List ℕ → ℕ → ℕ → List ℕ
@@ -8,7 +8,7 @@ around bytes h zero = []
 around bytes h (suc n) = slice_index bytes h ∷ around bytes ((h + 1) % 16) n
 
 -- the bytes that wait, the oldest first
-abbrev pub held : Queue → List ℕ
+abbrev pub held : Inside → List ℕ
 held q = around q.bytes q.head q.count
 
 -- a queue in 16 bytes, the oldest first, 0 beyond them

@@ -1,6 +1,5 @@
 // The serial port.
 ghost use Rattle.std.specs.Prelude.{◌<◌, ◌≤◌, length};
-ghost use Rattle.uart.specs.Ring.{held};
 ghost use Rattle.uart.specs.Uart.{capacity};
 
 use crate::queue::Queue;
@@ -23,5 +22,5 @@ pub struct Uart {
     queue: Queue,
     ghost enabled: { ier < 16 },
     ghost modem: { mcr < 32 },
-    ghost room: { length (held queue) ≤ capacity fe },
+    ghost room: { length queue ≤ capacity fe },
 }

@@ -1,7 +1,7 @@
 // The words of the serial port's rules.
+use crate::queue::Queue;
 
-// A state of the serial port. No value of it is made when a program runs: devices are said to mean one. `queue` stands for
-// the list of the bytes that wait, the oldest first.
+// A state of the serial port. No value of it is made when a program runs: devices are said to mean one.
 pub struct UartState {
     pub dll: u8,
     pub dlm: u8,
@@ -12,7 +12,7 @@ pub struct UartState {
     pub oe: bool,
     pub fe: bool,
     pub ti: bool,
-    pub queue: [u8; 16],
+    pub queue: Queue,
 }
 
 // What an offset reaches.
@@ -31,16 +31,16 @@ pub enum Register {
     Scratch,
 }
 
-// Why the line is raised.
+// Why the line is raised; the number is what a guest reads.
 #[derive(Clone, Copy)]
 pub enum Interrupt {
-    Overrun,
-    Received,
-    TransmitterEmpty,
+    Overrun = 6,
+    Received = 4,
+    TransmitterEmpty = 2,
 }
 
 // What travels beside the body, where it is needed.
-#[derive(Clone, Copy)]
+#[derive(Clone, Copy, PartialEq, Eq, Debug)]
 pub enum UartSubsection {
     Fifo,
     Latch,

@@ -45,7 +45,7 @@ fn numbers(number: u8, section: u32, detail: u64) -> Numbers {
     }
 }
 
-// The six numbers of a refusal; a call that is served fails the test.
+// The six numbers of a refusal; a call that is served fails the test. A `Fail` has to be used, so `ok_or` takes none.
 fn refusal<A: Drop>(res: Result<A, Fault>) -> Result<Numbers, Fail> {
     match res {
         Ok(_) => Err(Fail::new("the call is served")),
@@ -83,18 +83,12 @@ fn counts_of_ticks<T: Node>(rt: &impl Abort, board: &mut Running<T>) -> Result<(
 
 // The refusal to make a board of a tree.
 fn not_made<T: Node + Drop>(tree: T) -> Result<Numbers, Fail> {
-    let Err(back) = Running::new(tree) else {
-        return Err(Fail::new("the tree is served"));
-    };
-    let (fault, _) = back;
-    Ok(fault.numbers())
+    refusal(Running::new(tree).map_err(|(fault, _)| fault))
 }
 
 // The lines after a byte comes in at a serial port whose addresses begin at `address`.
 fn lines_after<T: Node + Drop>(rt: &impl Abort, tree: T, address: u32) -> Result<u16, Fail> {
-    let Ok(mut board) = Running::new(tree) else {
-        return Err(Fail::new("the tree is refused"));
-    };
+    let mut board = Running::new(tree).map_err(|_| Fail::new("the tree is refused"))?;
     assert_eq!(rt; board.feed(address, 0x41), Ok(()));
     assert_eq!(rt; board.write(address.saturating_add(1), 1), Ok(None));
     Ok(board.lines())
@@ -169,9 +163,7 @@ const THREE_LEAVES: [u8; 219] = [
 ];
 
 fn is_three_leaves<T: Node + Drop>(rt: &impl Abort, tree: T) -> Result<(), Fail> {
-    let Ok(mut board) = Running::new(tree) else {
-        return Err(Fail::new("the tree is refused"));
-    };
+    let mut board = Running::new(tree).map_err(|_| Fail::new("the tree is refused"))?;
     driven(rt, &mut board);
     let mut buffer = [0xee; 256];
     assert_eq!(rt; saved(board, 3, &mut buffer), Ok(219));

@@ -18,14 +18,12 @@ fn reads(rt: &impl Abort, line: &str, call: Call) -> Result<(), Fail> {
 
 // The line is refused, in these words.
 fn refuses(rt: &impl Abort, heap: Global, line: &str, words: &str) -> Result<(), Fail> {
-    match read_line(line) {
-        Err(mistake) => {
-            let said = mistake.to_string(heap)?;
-            assert!(rt; said.as_str() == words, "{}", line);
-            Ok(())
-        }
-        Ok(_) => Err(Fail::new(line)),
-    }
+    let Err(mistake) = read_line(line) else {
+        return Err(Fail::new(line));
+    };
+    let said = mistake.to_string(heap)?;
+    assert!(rt; said.as_str() == words, "{}", line);
+    Ok(())
 }
 
 #[test]

@@ -1,5 +1,6 @@
 // What the guest sees of the serial port.
 ghost use Rattle.std.specs.Prelude.{◌≡◌};
+ghost use native.Mathlib.Omega.{arith};
 ghost use Rattle.uart.specs.Uart as rules;
 ghost use Rattle.uart.specs.View.{view};
 
@@ -32,7 +33,7 @@ impl Uart {
 }
 
 // How many bytes the queue holds, by FE.
-pub(super) fn capacity(fe: bool) -> usize
+pub(super) fn capacity(fe: bool) -> u8
     ensures { result ≡ rules.capacity fe }
 {
     if fe { 16 } else { 1 }
@@ -46,8 +47,6 @@ impl Device for Uart {
     ghost meaning = { view };
 
     fn closed() {}
-
-    fn sound(&self) {}
 
     fn name() -> &'static [u8] {
         b"uart"
@@ -67,7 +66,7 @@ impl Device for Uart {
 
     fn read(&mut self, offset: u32) -> u8 {
         match self.register(offset) {
-            Register::Data => self.queue.pop(),
+            Register::Data => self.queue.pop().unwrap_or(0),
             Register::InterruptEnable => self.ier,
             Register::DivisorLow => self.dll,
             Register::DivisorHigh => self.dlm,
@@ -99,14 +98,13 @@ impl Device for Uart {
     }
 
     fn feed(&mut self, byte: u8) {
-        if self.queue.len() < capacity(self.fe) {
+        if self.queue.len() < usize::from(capacity(self.fe)) {
             self.queue.push(byte);
-            return;
-        }
-        self.oe = true;
-        if !self.fe {
-            self.queue = Queue::new();
-            self.queue.push(byte);
+        } else {
+            self.oe = true;
+            if !self.fe {
+                self.queue = Queue::filled(&[byte]);
+            }
         }
     }
 
@@ -115,4 +113,8 @@ impl Device for Uart {
     fn line(&self) -> bool {
         self.pending().is_some()
     }
+
+    ghost span = { (omega arith, omega arith) };
+
+    ghost sound = { λ port. record { ier = port.enabled; mcr = port.modem; queue = port.room } };
 }

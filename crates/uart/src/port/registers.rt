@@ -26,6 +26,9 @@ const DIVISOR_ACCESS: u8 = 7;
 // What is added to the identification while the queue is enabled.
 const QUEUE_ENABLED: u8 = 0xC0;
 
+// What a guest reads while no interrupt is pending.
+const NO_INTERRUPT: u8 = 1;
+
 // What the line status is made of.
 const TRANSMITTER_IDLE: u8 = 0x60;
 
@@ -38,22 +41,16 @@ impl Register {
     fn at(access: bool, offset: u32) -> Register
         ensures { result ≡ rules.register access offset }
     {
-        match offset {
-            0 => if access {
-                Register::DivisorLow
-            } else {
-                Register::Data
-            },
-            1 => if access {
-                Register::DivisorHigh
-            } else {
-                Register::InterruptEnable
-            },
-            2 => Register::Identification,
-            3 => Register::LineControl,
-            4 => Register::ModemControl,
-            5 => Register::LineStatus,
-            6 => Register::ModemStatus,
+        match (offset, access) {
+            (0, true) => Register::DivisorLow,
+            (0, false) => Register::Data,
+            (1, true) => Register::DivisorHigh,
+            (1, false) => Register::InterruptEnable,
+            (2, _) => Register::Identification,
+            (3, _) => Register::LineControl,
+            (4, _) => Register::ModemControl,
+            (5, _) => Register::LineStatus,
+            (6, _) => Register::ModemStatus,
             _ => Register::Scratch,
         }
     }
@@ -64,12 +61,7 @@ fn identification(pending: Option<Interrupt>) -> u8
     ensures number { result ≡ rules.identification pending }
     ensures small { result < 8 }
 {
-    match pending {
-        Some(Interrupt::Overrun) => 6,
-        Some(Interrupt::Received) => 4,
-        Some(Interrupt::TransmitterEmpty) => 2,
-        None => 1,
-    }
+    pending.map_or(NO_INTERRUPT, |interrupt| interrupt as u8)
 }
 
 impl Uart {
@@ -81,7 +73,7 @@ impl Uart {
     }
 
     // Whether a byte waits.
-    fn waiting(&self) -> bool
+    pub(super) fn waiting(&self) -> bool
         ensures { result ≡ rules.waiting (view self.now) }
     {
         self.queue.len() > 0

@@ -5,20 +5,24 @@ ghost use Rattle.device.specs.Format.{needs as needs_in};
 ghost use Rattle.uart.specs.Stream as stream;
 ghost use Rattle.uart.specs.View.{view};
 ghost use Rattle.uart.specs.declared.state.UartSubsection.TheVariants.{Fifo, Latch};
+ghost use native.Mathlib.Omega.{arith};
 
 use super::Uart;
 use super::registers::TRANSMITTER_ENABLE;
 use crate::state::UartSubsection;
 use check::{check_body, check_fifo, check_latch};
+use device::adoption::NotAdopted;
 use device::bits::bit;
+use device::bytes::array;
 use device::{Device, Movable};
-use layout::{BODY_SIZE, BYTES, COUNT, FE, FIFO_DEFAULT, SUBSECTIONS, VERSION, latch_default};
+use layout::{BODY_SIZE, BYTES, COUNT, FE, FIFO_DEFAULT, VERSION, latch_default};
 
 mod adopt;
 mod check;
 mod layout;
 
-// Whether a subsection is not its default.
+// Whether a subsection is not its default. It stays a function: with the comparison in `is_needed` the check's search
+// gave up at one of its limits.
 fn differ(own: &[u8], default: &[u8]) -> bool
     ensures { result ≡ differs own.now default.now }
 {
@@ -30,7 +34,7 @@ impl Uart {
     fn needs_fifo(&self) -> bool
         ensures { result ≡ needs_in stream.format (view self.now) (stream.number Fifo) }
     {
-        self.fe || self.queue.len() > 0
+        self.fe || self.waiting()
     }
 
     // Whether the latch is not what IER makes of it.
@@ -40,11 +44,13 @@ impl Uart {
         self.ti != bit(TRANSMITTER_ENABLE, self.ier)
     }
 
+    // Writes in place: an array that is returned would be copied.
     fn write_fifo(&self, out: &mut [u8])
         requires { length out.old ≡ 18 }
         ensures { out.new ≡ stream.sub Fifo (view self.now) }
     {
         out[FE] = u8::from(self.fe);
+        // At most 16 bytes wait, and no From narrows.
         out[COUNT] = self.queue.len() as u8;
         self.queue.write(&mut out[BYTES..]);
     }
@@ -58,7 +64,11 @@ impl Uart {
 }
 
 impl Movable for Uart {
+    type Subsection = UartSubsection;
+
     ghost format = { stream.format };
+
+    ghost numbered = { stream.number };
 
     fn lawful() {}
 
@@ -70,28 +80,32 @@ impl Movable for Uart {
         version == VERSION
     }
 
-    fn knows(edition: u32, number: u8) -> bool {
-        edition >= UartSubsection::numbered(number).known_from()
+    fn knows(edition: u32, subsection: UartSubsection) -> bool {
+        edition >= subsection.known_from()
     }
 
-    fn subsections() -> u8 {
-        SUBSECTIONS
+    fn subsections() -> &'static [UartSubsection] {
+        &[UartSubsection::Fifo, UartSubsection::Latch]
     }
 
-    fn title(number: u8) -> &'static [u8] {
-        UartSubsection::numbered(number).title()
+    fn number(subsection: UartSubsection) -> u8 {
+        subsection as u8
+    }
+
+    fn title(subsection: UartSubsection) -> &'static [u8] {
+        subsection.title()
     }
 
     fn body_size(version: u32) -> usize {
         BODY_SIZE
     }
 
-    fn subsection_size(number: u8) -> usize {
-        UartSubsection::numbered(number).size()
+    fn subsection_size(subsection: UartSubsection) -> usize {
+        subsection.size()
     }
 
-    fn needs(&self, number: u8) -> bool {
-        match UartSubsection::numbered(number) {
+    fn needs(&self, subsection: UartSubsection) -> bool {
+        match subsection {
             UartSubsection::Fifo => self.needs_fifo(),
             UartSubsection::Latch => self.needs_latch(),
         }
@@ -114,32 +128,44 @@ impl Movable for Uart {
         ]);
     }
 
-    fn write_subsection(&self, number: u8, out: &mut [u8]) {
-        match UartSubsection::numbered(number) {
+    fn write_subsection(&self, subsection: UartSubsection, out: &mut [u8]) {
+        match subsection {
             UartSubsection::Fifo => self.write_fifo(out),
             UartSubsection::Latch => self.write_latch(out),
         }
     }
 
     fn check_body(version: u32, body: &[u8]) -> Option<u16> {
-        check_body(body)
+        check_body(array(body))
     }
 
-    fn check_subsection(version: u32, body: &[u8], number: u8, own: &[u8]) -> Option<u16> {
-        match UartSubsection::numbered(number) {
-            UartSubsection::Fifo => check_fifo(own),
-            UartSubsection::Latch => check_latch(own),
+    fn check_subsection(
+        version: u32,
+        body: &[u8],
+        subsection: UartSubsection,
+        own: &[u8],
+    ) -> Option<u16> {
+        match subsection {
+            UartSubsection::Fifo => check_fifo(array(own)),
+            UartSubsection::Latch => check_latch(array(own)),
         }
     }
 
-    fn is_needed(version: u32, body: &[u8], number: u8, own: &[u8]) -> bool {
-        match UartSubsection::numbered(number) {
+    fn is_needed(version: u32, body: &[u8], subsection: UartSubsection, own: &[u8]) -> bool {
+        match subsection {
             UartSubsection::Fifo => differ(own, &FIFO_DEFAULT),
-            UartSubsection::Latch => differ(own, &latch_default(body)),
+            UartSubsection::Latch => differ(own, &latch_default(array(body))),
         }
     }
 
-    fn adopt(&mut self, version: u32, body: &[u8], subsections: &[Option<&[u8]>]) -> bool {
-        self.adopt_section(body, subsections)
+    fn adopt(
+        &mut self,
+        version: u32,
+        body: &[u8],
+        subsections: &[Option<&[u8]>],
+    ) -> Result<(), NotAdopted> {
+        self.adopt_section(array(body), subsections)
     }
+
+    ghost known = { elim [ Fifo ↦ λ some. omega arith | Latch ↦ λ some. omega arith ] };
 }

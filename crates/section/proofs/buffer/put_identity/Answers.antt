@@ -1,14 +1,13 @@
 use Rattle.std.proofs.Common.{[], ◌∷◌, length, refl, arith}
 use Rattle.device.specs.Bytes.{four}
 use Rattle.section.specs.Layout.{times}
-use Rattle.section.specs.Names.{listed}
 use Rattle.section.proofs.Writes.{start, step}
 use Rattle.section.proofs.buffer.put_identity.Goals as goal
 
 pub returns : goal.returns
 returns c =
     let name = c.args.name.now in
-    let before = listed c.args.before.now in
+    let before = c.args.before.now in
     let number =
     start c.args.out.now (four (length before)) refl c.put_leaf_number-n.ensures.count (omega arith)
     c.put_leaf_number-n.ensures.buffer in

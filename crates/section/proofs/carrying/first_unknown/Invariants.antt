@@ -3,8 +3,8 @@ use Rattle.device.specs.Format.{count, unknown}
 use Rattle.section.proofs.Unknown.{from}
 use Rattle.section.proofs.carrying.first_unknown.Given as goal
 
-abbrev pub invariant-loop-number : goal.invariant-loop-number
-invariant-loop-number g l =
+abbrev pub invariant-loop-subsection : goal.invariant-loop-subsection
+invariant-loop-subsection g l =
     let f = g.D.Movable.format in
     let s = g.D.Device.meaning l.device in
-    unknown f l.edition s ≡ from f l.edition s (count f) l.number
+    unknown f l.edition s ≡ from f l.edition s (count f) l.subsection-index

@@ -1,9 +1,8 @@
 use Rattle.std.proofs.Common.{◌≡◌, ℕ, List, [], ◌∷◌, ◌++◌, length, refl, ap, append_assoc, arith}
 use Rattle.device.specs.Bytes.{four}
 use Rattle.device.specs.Format.{needed, section_by}
-use Rattle.section.specs.Names.{listed}
 use Rattle.section.specs.Layout.{identity, subsections, laid}
-use Rattle.section.proofs.Writes.{start, step, regroup}
+use Rattle.section.proofs.Writes.{start, step, fill, regroup}
 use Rattle.section.proofs.writing.put_section.Goals as goal
 
 joined :
@@ -15,7 +14,7 @@ returns g c =
     let f = g.D.Movable.format in
     let s = g.D.Device.meaning c.args.device.now in
     let name = g.D.Device.kind.name in
-    let before = listed c.args.before.now in
+    let before = c.args.before.now in
     let version = (f.edition c.args.edition).writes in
     let row = c.writes-version.ensures in
     let is = c.name.ensures in
@@ -26,8 +25,8 @@ returns g c =
     c.put_identity-n.ensures.buffer in
     let number = step (four version) (ap four row) id c.put_number-n.ensures.count (omega arith)
     c.put_number-n.ensures.buffer in
-    let body = step (f.body version s) (ap (λ v. f.body v s) row) number c.put_body-n.ensures.count (omega arith)
-    c.put_body-n.ensures.buffer in
+    let long = c.lawful.ensures.formed.body-size c.writes-version.result s (g.met.D.Device.sound c.args.device.now) in
+    let body = fill (f.body version s) (ap (λ v. f.body v s) row) number (omega arith) (omega arith) c.write_body.ensures (omega arith) in
     let subs = step (subsections f (needed f s)) refl body c.put_subsections-n.ensures.count (omega arith)
     c.put_subsections-n.ensures.buffer in
     let close = step (0x7e ∷ []) refl subs c.put-n-2.ensures.count (omega arith) c.put-n-2.ensures.buffer in

@@ -1,71 +1,90 @@
 // How a serial port takes on what a section says.
-ghost use Rattle.std.specs.Prelude.{◌≡◌, ◌<◌, ◌≤◌, true, length, take, drop, ◌==◌, slice_index};
+ghost use Rattle.std.specs.Prelude.{◌≡◌, ◌<◌, ◌≤◌, true, take, drop, ◌==◌, slice_index};
 ghost use Rattle.device.specs.Table.{Table, section_of, adopting};
-ghost use Rattle.uart.specs.Ring.{held};
 ghost use Rattle.uart.specs.Stream as stream;
 ghost use Rattle.uart.specs.Uart.{capacity};
 ghost use Rattle.uart.specs.View.{view};
 
 use super::check::{check_body, check_fifo, check_latch};
 use super::layout::{
-    BYTES, COUNT, DLL, DLM, FE, FIFO_DEFAULT, IER, LCR, MCR, OE, SCR, TI, latch_default,
+    BODY_SIZE, BYTES, COUNT, DLL, DLM, FE, FIFO_DEFAULT, FIFO_SIZE, IER, LATCH_SIZE, LCR, MCR, OE,
+    SCR, TI, latch_default,
 };
 use crate::port::Uart;
 use crate::queue::Queue;
 use crate::state::UartSubsection;
+use device::adoption::NotAdopted;
+use device::bytes::array;
 
-// Whether all three pass; then the fields are in their spans.
-fn passes(body: &[u8], fifo: &[u8], latch: &[u8]) -> bool
-    requires { (length body.now ≡ 7) × ((length fifo.now ≡ 18) × (length latch.now ≡ 1)) }
-    ensures answer { result ≡ stream.passing body.now fifo.now latch.now }
-    ensures ier { result ≡ true → slice_index body.now 2 < 16 }
-    ensures mcr { result ≡ true → slice_index body.now 4 < 32 }
-    ensures count { result ≡ true → slice_index fifo.now 1 ≤ capacity (slice_index fifo.now 0 == 1) }
-{
-    check_body(body).is_none() && check_fifo(fifo).is_none() && check_latch(latch).is_none()
+// What a section says: its body, and its subsections or what stands for them.
+#[derive(Clone, Copy)]
+struct Parts<'a> {
+    body: &'a [u8; BODY_SIZE],
+    fifo: &'a [u8; FIFO_SIZE],
+    latch: &'a [u8; LATCH_SIZE],
 }
 
-// The queue of a uart/fifo that has passed.
-fn queue_of(fifo: &[u8]) -> Queue
-    requires size { length fifo.now ≡ 18 }
-    requires count { slice_index fifo.now 1 ≤ 16 }
-    ensures { held result ≡ take (slice_index fifo.now 1) (drop 2 fifo.now) }
-{
-    let count = fifo[COUNT] as usize;
-    Queue::filled(&fifo[BYTES..BYTES + count])
+impl Parts<'_> {
+    // Whether all three pass; then the fields are in their spans.
+    fn passes(&self) -> bool
+        ensures answer { result ≡ stream.passing self.now.body.now self.now.fifo.now self.now.latch.now }
+        ensures ier { result ≡ true → slice_index self.now.body.now 2 < 16 }
+        ensures mcr { result ≡ true → slice_index self.now.body.now 4 < 32 }
+        ensures count { result ≡ true → slice_index self.now.fifo.now 1 ≤ capacity (slice_index self.now.fifo.now 0 == 1) }
+    {
+        check_body(self.body).is_none()
+            && check_fifo(self.fifo).is_none()
+            && check_latch(self.latch).is_none()
+    }
+
+    // The queue of a uart/fifo that has passed.
+    fn queue(&self) -> Queue
+        requires { slice_index self.now.fifo.now 1 ≤ 16 }
+        ensures { result ≡ take (slice_index self.now.fifo.now 1) (drop 2 self.now.fifo.now) }
+    {
+        let fifo = self.fifo;
+        Queue::filled(&fifo[BYTES..BYTES + usize::from(fifo[COUNT])])
+    }
 }
 
 impl Uart {
     // Takes on what passes.
-    fn adopt_parts(&mut self, body: &[u8], fifo: &[u8], latch: &[u8]) -> bool
-        requires { (length body.now ≡ 7) × ((length fifo.now ≡ 18) × (length latch.now ≡ 1)) }
-        ensures { (result, view self.new) ≡ adopting (stream.adopt_parts body.now fifo.now latch.now) (view self.old) }
+    fn adopt_parts(&mut self, parts: &Parts<'_>) -> Result<(), NotAdopted>
+        ensures { (result, view self.new) ≡ adopting (stream.adopt_parts parts.now.body.now parts.now.fifo.now parts.now.latch.now) (view self.old) }
     {
-        if !passes(body, fifo, latch) {
-            return false;
+        if !parts.passes() {
+            return Err(NotAdopted);
         }
-        self.dll = body[DLL];
-        self.dlm = body[DLM];
-        self.ier = body[IER];
-        self.lcr = body[LCR];
-        self.mcr = body[MCR];
-        self.scr = body[SCR];
-        self.oe = body[OE] == 1;
-        self.fe = fifo[FE] == 1;
-        self.ti = latch[TI] == 1;
-        self.queue = queue_of(fifo);
-        true
+        self.dll = parts.body[DLL];
+        self.dlm = parts.body[DLM];
+        self.ier = parts.body[IER];
+        self.lcr = parts.body[LCR];
+        self.mcr = parts.body[MCR];
+        self.scr = parts.body[SCR];
+        self.oe = parts.body[OE] == 1;
+        self.fe = parts.fifo[FE] == 1;
+        self.ti = parts.latch[TI] == 1;
+        self.queue = parts.queue();
+        Ok(())
     }
 
     // Takes on a body and the subsections beside it, an absent one at its default.
-    pub(super) fn adopt_section(&mut self, body: &[u8], subsections: &[Option<&[u8]>]) -> bool
-        requires body { length body.now ≡ 7 }
-        requires table { Table stream.format subsections.now }
+    pub(super) fn adopt_section(
+        &mut self,
+        body: &[u8; BODY_SIZE],
+        subsections: &[Option<&[u8]>],
+    ) -> Result<(), NotAdopted>
+        requires { Table stream.format subsections.now }
         ensures { (result, view self.new) ≡ adopting (stream.adopt (section_of 1 body.now subsections.now)) (view self.old) }
     {
+        // A subsection's number is its place: `as` gives the discriminant as an index.
         let default = latch_default(body);
         let fifo = subsections[UartSubsection::Fifo as usize].unwrap_or(&FIFO_DEFAULT);
         let latch = subsections[UartSubsection::Latch as usize].unwrap_or(&default);
-        self.adopt_parts(body, fifo, latch)
+        self.adopt_parts(&Parts {
+            body,
+            fifo: array(fifo),
+            latch: array(latch),
+        })
     }
 }

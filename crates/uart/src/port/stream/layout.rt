@@ -1,5 +1,5 @@
 // The layout of the serial port's section: where its fields stand, its subsections and their defaults.
-ghost use Rattle.std.specs.Prelude.{◌≡◌, ◌<◌, length};
+ghost use Rattle.std.specs.Prelude.{◌≡◌};
 ghost use Rattle.device.specs.Format.{title as title_of, sub_size};
 ghost use Rattle.uart.specs.Stream as stream;
 ghost use Rattle.uart.specs.declared.state.UartSubsection.TheVariants.{Latch};
@@ -28,9 +28,6 @@ pub const OE: usize = 6;
 
 pub const BODY_SIZE: usize = 7;
 
-// How many subsections there are.
-pub const SUBSECTIONS: u8 = 2;
-
 // The fields of uart/fifo. From BYTES on there is one for each byte that can wait.
 pub const FE: usize = 0;
 
@@ -49,26 +46,13 @@ pub const TI: usize = 0;
 pub const LATCH_SIZE: usize = 1;
 
 // What stands for uart/latch where it is absent beside a body.
-pub fn latch_default(body: &[u8]) -> [u8; LATCH_SIZE]
-    requires { length body.now ≡ 7 }
+pub fn latch_default(body: &[u8; BODY_SIZE]) -> [u8; LATCH_SIZE]
     ensures { result ≡ stream.default Latch body.now }
 {
     [u8::from(bit(TRANSMITTER_ENABLE, body[IER]))]
 }
 
 impl UartSubsection {
-    // The subsection of a number.
-    pub(super) fn numbered(number: u8) -> UartSubsection
-        requires { number < 2 }
-        ensures same { result ≡ stream.numbered number }
-        ensures number { number ≡ stream.number result }
-    {
-        match number {
-            0 => UartSubsection::Fifo,
-            _ => UartSubsection::Latch,
-        }
-    }
-
     // The first edition that knows it.
     pub(super) fn known_from(self) -> u32
         ensures { result ≡ stream.known_from self }

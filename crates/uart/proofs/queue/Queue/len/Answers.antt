@@ -1,6 +1,8 @@
-use Rattle.std.proofs.Common.{sym}
+use Rattle.std.proofs.Common.{length, sym, ap, ◌∙◌}
 use Rattle.uart.proofs.Rings.{around-length}
 use Rattle.uart.proofs.queue.Queue.len.Goals as goal
 
 pub returns : goal.returns
-returns c = sym (around-length c.args.self.now.bytes c.args.self.now.head c.args.self.now.count)
+returns c =
+    let q = c.self.inside in
+    sym (around-length q.bytes q.head q.count) ∙ ap length c.self.view_is

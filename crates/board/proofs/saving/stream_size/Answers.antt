@@ -1,8 +1,0 @@
-use Rattle.std.proofs.Common.{arith}
-use Rattle.board.proofs.Streams.{length-stream}
-use Rattle.board.proofs.saving.stream_size.Goals as goal
-
-pub returns : goal.returns
-returns g c =
-    let size = length-stream g.T.Node.model c.args.edition (g.T.Node.state c.args.tree.now) in
-    record { value = omega arith; parts = omega arith }
