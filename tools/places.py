@@ -14,7 +14,8 @@ import sys
 # (point, what is looked for, pattern of a line)
 LINES = [
     (1, "success told by a bool", r"fn .*&mut .*-> bool"),
-    (1, "a value with a flag beside it", r"\(\w+, bool\)"),
+    (1, "a value with a flag beside it", r"\(\w+, bool\)|let \(\w+, \w+\) = match"),
+    (1, "an unwrap by hand", r"unreachable\(\)"),
     (1, "a flag that says which state or which rule", r"\b(resumed|binary): bool"),
     (1, "a refusal as an Option", r"-> Option<Fault>|if let Some\(fault\)"),
     (1, "a number for a kind", r"fn .*\b(number|register): u8|fn (number|layer)\(&self\) -> u8|^pub\(?.*\bu8\b.*REG_"),
@@ -33,6 +34,8 @@ LINES = [
     (7, "a function, a closure or dyn as a value", r"\b(Fn|FnMut|FnOnce)\(|\bdyn |: fn\("),
     (7, "a switch on which rule", r"binary: bool"),
 ]
+# a loop that searches or sums
+SEARCH = re.compile(r"return Some\(|\w \+= ")
 DO_NOTHING = re.compile(r"Does nothing|fn (lawful|closed|sound)\(.*\) \{\}?$")
 
 
@@ -100,6 +103,15 @@ def main(args):
         found = [(p, n, l.strip()) for p in sources(root) for n, l in enumerate(p.read_text().splitlines(), 1)
                  if re.search(pattern, l) and not l.strip().startswith("//")]
         rows.append((point, what, found))
+    loops = []
+    for p in sources(root):
+        lines = p.read_text().splitlines()
+        for n, l in enumerate(lines):
+            if re.match(r"\s*for ", l):
+                end = next(k for k in range(n, len(lines)) if lines[k] == re.match(r"\s*", l)[0] + "}")
+                if any(SEARCH.search(b) for b in lines[n + 1:end]):
+                    loops.append((p, n + 1, l.strip()))
+    rows.append((3, "a loop that searches or sums", loops))
     rows.append((2, "functions of one shape", [place for group in twins(root) for place in group]))
     rows.append((5, "a requires that stands three times or more", [p for places in facts(root).values() for p in places]))
     rows.append((5, "a function that does nothing but promise", [

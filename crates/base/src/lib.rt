@@ -18,8 +18,5 @@ pub type BaseTree = Bus<Leaf<Uart>, Leaf<Rtc>>;
 pub fn base_board() -> Running<BaseTree>
     ensures { devices result ≡ fresh base }
 {
-    match Running::new(Bus::new(Leaf::new(Uart::new()), Leaf::new(Rtc::new()))) {
-        Ok(board) => board,
-        Err(_) => unreachable(),
-    }
+    Running::new(Bus::new(Leaf::new(Uart::new()), Leaf::new(Rtc::new()))).unwrap()
 }

@@ -1,6 +1,7 @@
 -- What a save says of the state: it is refused for its state exactly where the edition does not carry it.
 use Rattle.std.proofs.Common.{◌≡◌, ℕ, ◌≤◌, Bool, true, false, leb, ◌↔◌, List, length, Some, None, Ok, Err, Option, Result, sym, refl, ap, ◌∙◌, subst, arith}
 use Rattle.std.proofs.lemmas.Bool.{cond-true, cond-false, le-leb, lt-leb, and_from}
+use Rattle.std.proofs.lemmas.Bool.Decides.{nat_tests}
 use Rattle.device.specs.Format.{latest, Served, is_served}
 use Rattle.fault.specs.declared.Fault.{Fault}
 use Rattle.fault.specs.declared.Fault.TheVariants.{ShortBuffer}
@@ -15,11 +16,7 @@ use Rattle.board.specs.Saving.{tested, barred, put, saving, answer_of, NotCarrie
 put_other :
     (b : Bool) (n : ℕ) (p : ℕ × List ℕ) (F : Fault) → answer_of (tested b (ShortBuffer n) (Ok p)) ≡ Err F
     → (numbers_of F).number ≡ 5 → ⊥
-put_other true n p F h five = let z : ◌≡◌ {A = ℕ} 0 1 = cc in omega arith
-put_other false n p F h five =
-    let is : ShortBuffer n ≡ F = cc in
-    let six = ap (λ (x : Fault). (numbers_of x).number) is in
-    omega (arith, six, five)
+put_other b n p F h five = grind (arith, nat_tests)
 
 module _
     (t : Tree) (s : State t) (e : ℕ) (buffer : List ℕ) (r : Result ℕ Fault) (answer : r ≡ answer_of (saving t s e buffer))

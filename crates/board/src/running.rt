@@ -8,10 +8,8 @@ use crate::call::{Answer, Call};
 use crate::slip::PauseSlip;
 use crate::stopped::Stopped;
 use fault::Fault;
+use section::names::MOST_LEAVES;
 use tree::node::Node;
-
-// The most leaves that a board has.
-const MOST_LEAVES: u64 = 16;
 
 // A board has at most 16 leaves; the clauses below say so where they need it. As a ghost field over a bound `T: Node` it was
 // tried: of a function that only holds such a board, the check says that it "cannot read" a type of the bound.
@@ -25,7 +23,8 @@ pub(crate) fn few_leaves<T: Node>() -> Result<(), Fault>
     ensures { result ≡ sized T.Node.model (Ok tt) }
 {
     let leaves = T::leaves();
-    if leaves > MOST_LEAVES {
+    // There is no From of a usize for a u64.
+    if leaves > MOST_LEAVES as u64 {
         let leaves = u8::try_from(leaves).unwrap_or(u8::MAX);
         return Err(Fault::TooManyLeaves { leaves });
     }
@@ -48,6 +47,7 @@ impl<T: Node> Running<T> {
         ensures value { mapped (λ b. T.Node.state b.tree) (λ e. e.0) result ≡ making T.Node.model }
         ensures back { IfErr result (λ e. e.1 ≡ tree) }
     {
+        // No `map_err`: its closure would take the tree.
         if let Err(fault) = few_leaves::<T>() {
             return Err((fault, tree));
         }

@@ -38,7 +38,7 @@ impl<T: Node> Stopped<T> {
         FRAME + self.tree.sections_size(edition)
     }
 
-    // Writes the stream to the front of a buffer.
+    // Writes the stream to the front of a buffer. The count stays beside it, since the tree is lent what is left.
     fn write_stream(&self, edition: u32, out: &mut [u8]) -> usize
         requires few { leaves T.Node.model ≤ 16 }
         requires room { 19 + size_of T.Node.model (written T.Node.model edition (T.Node.state self.now.tree)) ≤ length out.old }
@@ -55,7 +55,7 @@ impl<T: Node> Stopped<T> {
         n
     }
 
-    // The tests in their order, then the stream.
+    // The tests in their order, then the stream. `save` adds what the obligations give.
     pub(crate) fn save_stream(&self, edition: u32, buffer: &mut [u8]) -> Result<usize, Fault>
         ensures answer { result ≡ answer_of (saving T.Node.model (T.Node.state self.now.tree) edition buffer.old) }
         ensures buffer { buffer.new ≡ buffer_of buffer.old (saving T.Node.model (T.Node.state self.now.tree) edition buffer.old) }

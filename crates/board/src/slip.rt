@@ -2,7 +2,8 @@
 ghost use Rattle.std.specs.Prelude.{◌≡◌, true, false};
 
 // Stands for a board that was stopped and has to go on: resuming it takes the slip back. A slip cannot be copied, made by
-// others or let go. The mark is never set: `drop` asks for it, since the check refuses a contract that no call could meet.
+// others or let go. Letting one go calls `drop`, which asks for a mark that no code sets; the mark stays since the check refuses a
+// contract that no call could meet.
 pub struct PauseSlip {
     resumed: bool,
 }

@@ -56,7 +56,7 @@ impl Life {
         }
     }
 
-    // Saves into a buffer, which only a stopped board does.
+    // Saves into a buffer; none where the board's state does not admit it, which is no fault.
     pub fn save(&self, edition: u32, buffer: &mut [u8]) -> Option<Result<usize, Fault>> {
         match self {
             Life::Running(_) => None,

@@ -14,7 +14,8 @@ fn obey(session: &mut Session<'_>, at: u64, line: &str) -> anyhow::Result<()> {
     let reply = session
         .perform(command)
         .map_err(|trouble| anyhow!("line {at}: {trouble}"))?;
-    Ok(println!(session.rt; "{command} -> {reply}")?)
+    println!(session.rt; "{command} -> {reply}")?;
+    Ok(())
 }
 
 // Carries out each line as soon as it is read.

@@ -1,6 +1,6 @@
 -- Numbers of four bytes: a number is the value of its bytes, and bytes are those of their value.
 use Rattle.std.proofs.Common.{◌≡◌, ℕ, ◌+◌, ◌*◌, ◌/◌, ◌%◌, ◌^◌, ◌<◌, List, [], ◌∷◌, length, get_or, refl, ap, ◌∙◌, arith}
-use Rattle.std.proofs.lemmas.Nat.{shr-shr}
+use Rattle.std.proofs.lemmas.Nat.{from_be_bytes-to_be_bytes_4}
 use Rattle.device.specs.Bytes.{Bytes, four, value}
 
 value-is : (a b c d : ℕ) → value (a ∷ b ∷ c ∷ d ∷ []) ≡ a * 16777216 + b * 65536 + c * 256 + d
@@ -22,15 +22,8 @@ pub value-at :
 value-at =
     fours (λ xs. value xs ≡ get_or xs 0 0 * 16777216 + get_or xs 1 0 * 65536 + get_or xs 2 0 * 256 + get_or xs 3 0) value-is
 
-digits :
-    (p q n : ℕ) → n / 256 ≡ q → q / 256 ≡ p → p / 256 < 256
-    → p / 256 % 256 * 16777216 + p % 256 * 65536 + q % 256 * 256 + n % 256 ≡ n
-digits p q n h k l = omega arith
-
 pub value-four : (n : ℕ) → n < 2 ^ 32 → value (four n) ≡ n
-value-four n h =
-    value-is _ _ _ _
-    ∙ rw (← shr-shr n 16 8, ← shr-shr n 8 8) (digits (n / 256 / 256) (n / 256) n refl refl (omega arith))
+value-four n h = value-is _ _ _ _ ∙ from_be_bytes-to_be_bytes_4 n h
 
 four-value-is : (a b c d : ℕ) → Bytes (a ∷ b ∷ c ∷ d ∷ []) → four (value (a ∷ b ∷ c ∷ d ∷ [])) ≡ a ∷ b ∷ c ∷ d ∷ []
 four-value-is a b c d h =

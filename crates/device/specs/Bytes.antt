@@ -1,6 +1,7 @@
 -- Bits, bytes and the numbers that bytes stand for.
 use Rattle.std.specs.Prelude.{ℕ, ◌+◌, ◌*◌, ◌/◌, ◌%◌, ◌^◌, ◌<◌, Bool, true, false, cond, not, ◌&&◌, List, [], ◌∷◌, ◌==◌}
 use Rattle.std.specs.List.{AllByRecursion}
+use Rattle.std.specs.Str.{bytes_eq}
 
 -- bit k of a number, bit 0 the lowest
 abbrev pub bit : ℕ → ℕ → Bool
@@ -29,10 +30,7 @@ value bs = value_from 0 bs
 
 -- whether two lists have the same numbers
 abbrev pub same : List ℕ → List ℕ → Bool
-same [] [] = true
-same [] (y ∷ ys) = false
-same (x ∷ xs) [] = false
-same (x ∷ xs) (y ∷ ys) = x == y && same xs ys
+same = bytes_eq
 
 abbrev pub differs : List ℕ → List ℕ → Bool
 differs xs ys = not (same xs ys)

@@ -8,6 +8,7 @@ pub mod numbers;
 
 ghost use Rattle.std.specs.Prelude.{◌≡◌, ℕ, ◌<◌, ◌≤◌, true, length, map};
 ghost use Rattle.std.specs.List.{range_with_len};
+ghost use Rattle.std.specs.Result.{result_err};
 ghost use Rattle.device.specs.Kind.{Kind, Closed};
 ghost use Rattle.device.specs.Format.{Format, count, title as title_of, body_size, sub_size, needs as needs_in, off_default, taken, is_needed};
 ghost use Rattle.device.specs.Obligations.{Obligations};
@@ -26,8 +27,8 @@ pub trait Device {
     // The state that a device is in.
     ghost meaning: { Self → Self.State };
 
-    // Does nothing: it promises that the calls leave a sound state sound. It is no law, since a law's proof may cite only
-    // specs/, which holds what a reader must believe.
+    // Does nothing: it promises that the calls leave a sound state sound. It is no law, since of its own
+    // crate a law's proof may cite only specs/, which holds what a reader must believe.
     fn closed()
         ensures { Closed kind };
 
@@ -80,7 +81,7 @@ pub trait Device {
 // A device whose state can travel. It is first of all a device: what it writes and adopts is the state that it is in.
 pub trait Movable: Device {
     // The subsections of the kind. A kind without any has `()`, since a function that takes a value of an empty type could
-    // not be called, and the gate refuses it.
+    // not be called, and the check refuses it.
     type Subsection: Copy + 'static;
 
     // How its states travel.
@@ -89,11 +90,13 @@ pub trait Movable: Device {
     // The number of a subsection in the format's table.
     ghost numbered: { Self.Subsection → ℕ };
 
-    // Does nothing: it promises that the kind meets its obligations, which are to stand in what a function promises.
+    // Does nothing: it promises that the kind meets its obligations. It is no law by a rule of the project: the obligations
+    // stand in what a movable device's functions promise.
     fn lawful()
         ensures { Obligations Self.Device.kind format };
 
-    // The version that an edition writes.
+    // The version that an edition writes. An edition is any number here and below: a type of the editions that there are would
+    // ask more of callers.
     fn writes(edition: u32) -> u32
         ensures { result ≡ (format.edition edition).writes };
 
@@ -143,22 +146,22 @@ pub trait Movable: Device {
         requires { length out.old ≡ sub_size format (numbered subsection) }
         ensures { out.new ≡ format.sub (numbered subsection) (Self.Device.meaning self.now) };
 
-    // The first refused field of a body. Here and below a body stays a version and bytes with a `requires`: in a struct
-    // `Body<Self>` that keeps its size, the check proves no `impl`, since a kind has the associated type of its states.
-    fn check_body(version: u32, body: &[u8]) -> Option<u16>
+    // Passes a body, or answers its first refused field. Here and below a body stays a version and bytes with a `requires`: in a struct
+    // `Body<Self>` that keeps its size, the check asks for each `impl` to be proved by hand.
+    fn check_body(version: u32, body: &[u8]) -> Result<(), u16>
         requires { length body.now ≡ body_size format version }
-        ensures { result ≡ format.check version body.now };
+        ensures { result_err result ≡ format.check version body.now };
 
-    // The first refused field of a subsection beside a body.
+    // Passes a subsection beside a body, or answers its first refused field.
     fn check_subsection(
         version: u32,
         body: &[u8],
         subsection: Self::Subsection,
         own: &[u8],
-    ) -> Option<u16>
+    ) -> Result<(), u16>
         requires body_size { length body.now ≡ body_size format version }
         requires size { length own.now ≡ sub_size format (numbered subsection) }
-        ensures { result ≡ format.check_sub version body.now (numbered subsection) own.now };
+        ensures { result_err result ≡ format.check_sub version body.now (numbered subsection) own.now };
 
     // Whether a subsection beside a body is off its default.
     fn is_needed(version: u32, body: &[u8], subsection: Self::Subsection, own: &[u8]) -> bool

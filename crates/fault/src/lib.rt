@@ -52,8 +52,8 @@ pub enum Fault {
     TooManyLeaves {
         leaves: u8,
     },
-    // Fewer bytes are left than the item at this place has. In the frame both are none. They stay two options, since each is
-    // shown as a number of its own.
+    // Fewer bytes are left than the item at this place has. In the frame both are none. They stay two options, as the
+    // definition of the six numbers has them.
     #[error("the stream ends inside {part}, in the item at byte {place}; load all of it", part = Part::new(*.section, *.subsection))]
     EndOfStream {
         section: Option<u8>,
@@ -145,7 +145,7 @@ pub enum Fault {
 }
 
 // A fault as six numbers. A section or subsection of 255 is none.
-// The fields stay plain numbers: a console prints them, and C can read them.
+// The fields stay plain numbers, as their definition has them and a console prints them.
 #[derive(Clone, Copy, PartialEq, Eq, Debug)]
 pub struct Numbers {
     pub number: u8,

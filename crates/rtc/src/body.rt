@@ -8,7 +8,7 @@ ghost use Rattle.rtc.specs.Stream as stream;
 use crate::RATE;
 use crate::registers::{REG_A, REG_B, UF, stored_b};
 use crate::state::RtcState;
-use device::bytes::padded;
+use device::bytes::{array, padded};
 use device::numbers::{number, put_number};
 
 // The versions: the last has every field, the first has no flags.
@@ -93,17 +93,15 @@ impl RtcState {
     fn of_fields(body: &[u8; END]) -> RtcState
         ensures { result ≡ stream.state_of body.now }
     {
-        let mut registers = [0; 62];
-        registers.copy_from_slice(&body[REGISTERS..PHASE]);
         RtcState {
             index: body[INDEX],
-            registers,
+            registers: *array(&body[REGISTERS..PHASE]),
             phase: number(&body[PHASE..FLAGS]),
             updated: body[FLAGS] == UF,
         }
     }
 
-    // Passes, or answers the first field that does not, of a state and of the flags that it was read with.
+    // Refuses the first field of the state, or the flags that it was read with, that does not pass.
     fn check(&self, flags: u8) -> Result<(), u16>
         ensures is { result_err result ≡ stream.first_refused (stream.checks ticks_per_second self.now flags) }
         ensures sound { IfOk result (λ _. Sound ticks_per_second self.now) }

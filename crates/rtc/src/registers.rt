@@ -4,7 +4,7 @@ ghost use Rattle.device.specs.Bytes.{bit as bit_of};
 ghost use Rattle.rtc.specs.Rtc as rules;
 ghost use Rattle.rtc.specs.declared.registers.Register.TheVariants.{Index, Held, Flags, Valid};
 
-use crate::state::RtcState;
+use crate::state::{PLACES, RtcState};
 use crate::time::{self, Coding};
 use crate::{RATE, Rtc};
 use device::bits::bit;
@@ -102,7 +102,7 @@ impl RtcState {
     pub(crate) fn fresh() -> RtcState
         ensures { result ≡ rules.fresh }
     {
-        let mut registers = [0; 62];
+        let mut registers = [0; PLACES];
         registers[WEEKDAY] = 1;
         registers[DAY] = 1;
         registers[MONTH] = 1;

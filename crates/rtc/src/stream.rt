@@ -27,7 +27,7 @@ impl Movable for Rtc {
     }
 
     fn takes(edition: u32, version: u32) -> bool {
-        version >= FIRST && version <= Rtc::writes(edition)
+        (FIRST..=Rtc::writes(edition)).contains(&version)
     }
 
     fn subsections() -> &'static [()] {
@@ -69,12 +69,13 @@ impl Movable for Rtc {
 
     fn write_subsection(&self, subsection: (), out: &mut [u8]) {}
 
-    fn check_body(version: u32, body: &[u8]) -> Option<u16> {
-        RtcState::read(&body::complete(version, body)).err()
+    fn check_body(version: u32, body: &[u8]) -> Result<(), u16> {
+        RtcState::read(&body::complete(version, body))?;
+        Ok(())
     }
 
-    fn check_subsection(version: u32, body: &[u8], subsection: (), own: &[u8]) -> Option<u16> {
-        None
+    fn check_subsection(version: u32, body: &[u8], subsection: (), own: &[u8]) -> Result<(), u16> {
+        Ok(())
     }
 
     fn is_needed(version: u32, body: &[u8], subsection: (), own: &[u8]) -> bool {

@@ -2,7 +2,7 @@
 ghost use Rattle.std.specs.Prelude.{◌≡◌, ◌-◌, ◌<◌, ◌≤◌, IfSome};
 ghost use Rattle.rtc.specs.Rtc as rules;
 
-use crate::state::Counter;
+use crate::state::{Counter, PLACES};
 use std::ops::Range;
 
 const SECOND: Counter = Counter {
@@ -23,7 +23,8 @@ const HOUR: Counter = Counter {
     last: 23,
 };
 
-// How numbers are coded: each by its own byte if `binary`, else by 16 × tens + units. A flag and no enum, as the rules have it.
+// How numbers are coded: each by its own byte if `binary`, else by 16 × tens + units. A flag and no enum: the
+// definitions of codes and counters take register B's bit as it is, and each clause would turn an enum back into it.
 #[derive(Clone, Copy)]
 pub(crate) struct Coding {
     pub(crate) binary: bool,
@@ -58,22 +59,19 @@ impl Coding {
 
 impl Counter {
     // Moves on, and answers whether it carries: a test of its own, as an overflow is, and no success.
-    fn advance(self, coding: Coding, registers: &mut [u8; 62]) -> bool
+    fn advance(self, coding: Coding, registers: &mut [u8; PLACES]) -> bool
         requires { (self.at < 62) × (self.first < 100) × (self.last < 100) }
         ensures carry { result ≡ (rules.next_in coding.binary self registers.old).1 }
         ensures moved { registers.new ≡ rules.moved coding.binary self registers.old }
     {
-        let (byte, carry) = match coding.find(self.first..self.last, registers[self.at]) {
-            Some(n) => (coding.code(n + 1), false),
-            None => (coding.code(self.first), true),
-        };
-        registers[self.at] = byte;
-        carry
+        let found = coding.find(self.first..self.last, registers[self.at]);
+        registers[self.at] = coding.code(found.map_or(self.first, |n| n + 1));
+        found.is_none()
     }
 }
 
 // Moves the time of day on by a second.
-pub(crate) fn advance_second(coding: Coding, registers: &mut [u8; 62])
+pub(crate) fn advance_second(coding: Coding, registers: &mut [u8; PLACES])
     ensures { registers.new ≡ rules.advanced coding.binary registers.old }
 {
     if SECOND.advance(coding, registers) && MINUTE.advance(coding, registers) {

@@ -42,11 +42,7 @@ impl Device for Dial {
     }
 
     fn reset(&mut self) {
-        self.state = DialState {
-            index: 0,
-            turned: false,
-            latch: false,
-        };
+        self.state = DialState::default();
     }
 
     fn read(&mut self, offset: u32) -> u8 {

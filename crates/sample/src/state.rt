@@ -1,7 +1,7 @@
 // The states of a dial.
 
 // Where the dial stands, whether it was ever turned, and its latch.
-#[derive(Clone, Copy)]
+#[derive(Clone, Copy, Default)]
 pub struct DialState {
     pub index: u8,
     pub turned: bool,

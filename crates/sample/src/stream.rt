@@ -24,7 +24,8 @@ const WRITES_LAST: u32 = 3;
 // The first edition that knows dial/latch.
 const KNOWS_LATCH: u32 = 2;
 
-// The fields of a body, each of a byte, so that a field's number is its place. No From leads from a place to a number: `as`.
+// The fields of a body, each of a byte, so that a field's number is its place; a check answers a number, whatever the kind. No
+// From leads from a place to a number: `as`.
 const INDEX: usize = 0;
 
 const TURNED: usize = 1;
@@ -87,11 +88,11 @@ impl Movable for Dial {
     fn lawful() {}
 
     fn writes(edition: u32) -> u32 {
-        if edition < WRITES_LAST { FIRST } else { LAST }
+        if edition >= WRITES_LAST { LAST } else { FIRST }
     }
 
     fn takes(edition: u32, version: u32) -> bool {
-        version >= FIRST && version <= Dial::writes(edition)
+        (FIRST..=Dial::writes(edition)).contains(&version)
     }
 
     fn subsections() -> &'static [DialSubsection] {
@@ -115,7 +116,7 @@ impl Movable for Dial {
     }
 
     fn body_size(version: u32) -> usize {
-        if version < LAST { TURNED } else { END }
+        if version >= LAST { END } else { TURNED }
     }
 
     fn subsection_size(subsection: DialSubsection) -> usize {
@@ -146,8 +147,8 @@ impl Movable for Dial {
         }
     }
 
-    fn check_body(version: u32, body: &[u8]) -> Option<u16> {
-        check(complete(version, body)).err()
+    fn check_body(version: u32, body: &[u8]) -> Result<(), u16> {
+        check(complete(version, body))
     }
 
     fn check_subsection(
@@ -155,9 +156,10 @@ impl Movable for Dial {
         body: &[u8],
         subsection: DialSubsection,
         own: &[u8],
-    ) -> Option<u16> {
+    ) -> Result<(), u16> {
         match subsection {
-            DialSubsection::Latch => (own[LATCH] > FLAG_MAX).then_some(LATCH as u16),
+            DialSubsection::Latch if own[LATCH] > FLAG_MAX => Err(LATCH as u16),
+            DialSubsection::Latch => Ok(()),
         }
     }
 

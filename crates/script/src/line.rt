@@ -30,7 +30,7 @@ pub enum Command<'a> {
 // Reads a line: a command, or none where it is empty or only a comment.
 pub fn read_line(line: &str) -> Result<Option<Command<'_>>, Mistake<'_>> {
     let mut words = Words::of(line);
-    let Some(word) = words.next() else {
+    let Some(word) = words.take() else {
         return Ok(None);
     };
     let command = match word {
@@ -84,7 +84,7 @@ fn call<'a>(word: &'a str, words: &mut Words<'a>) -> Result<Call, Mistake<'a>> {
     })
 }
 
-// A command as a line that asks for it. The words of a call stand here and not with `Call`, beside those that are read above.
+// A command as a line that asks for it. The words of a call stand here, where they are read, and not with `Call`.
 impl fmt::Display for Command<'_> {
     fn fmt<W: fmt::Write>(&self, f: &mut fmt::Formatter<W>) -> fmt::Result {
         match *self {

@@ -17,13 +17,13 @@ impl<'a> Words<'a> {
         }
     }
 
-    pub fn next(&mut self) -> Option<&'a str> {
+    pub fn take(&mut self) -> Option<&'a str> {
         self.rest.next()
     }
 
     // The next word, or what is missing.
     pub fn word(&mut self, what: &'static str) -> Result<&'a str, Mistake<'a>> {
-        self.next().ok_or(Mistake::Missing(what))
+        self.take().ok_or(Mistake::Missing(what))
     }
 
     // The next word as a number.
@@ -38,7 +38,7 @@ impl<'a> Words<'a> {
 
     // Refuses a word that is left over.
     pub fn end(&mut self) -> Result<(), Mistake<'a>> {
-        self.next()
+        self.take()
             .map_or(Ok(()), |word| Err(Mistake::TooManyWords(word)))
     }
 }

@@ -4,4 +4,5 @@ pub mod Sizes
 pub mod Numbered
 pub mod Subsections
 pub mod Unknown
+pub mod Writers
 pub mod Writes

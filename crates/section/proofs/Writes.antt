@@ -32,30 +32,3 @@ step {a} {buffer} {xs} {ys} {c} {n} {m} b e w k h v =
       room = h;
       value = simp (front, v, e, part, post, append-nil, append_assoc, length-append, drop-drop);
     }
-
--- a write of such bytes over as many behind the written ones
-pub fill :
-    {a buffer xs ys c : List ℕ} {n m k : ℕ} (b : List ℕ) → c ≡ b → Wrote a n buffer xs → m ≡ length c → n + m ≤ length buffer
-    → ys ≡ c → k ≡ m → Wrote (a ++ b) (n + m) buffer (put_mid n k xs ys)
-fill {a} {buffer} {xs} {ys} {c} {n} {m} {k} b e w l h v q =
-    let front : take n xs ≡ a = ap (take n) w.value ∙ take_at a (drop (length a) buffer) n (sym w.count) in
-    let rest : drop n xs ≡ drop (length a) buffer =
-    ap (drop n) w.value ∙ drop_at a (drop (length a) buffer) n (sym w.count) in
-    let size : k ≡ length b = q ∙ l ∙ ap length e in
-    let post : drop k (drop n xs) ≡ drop (length b) (drop (length a) buffer) =
-    ap (drop k) rest ∙ ap (λ (i : ℕ). drop i (drop (length a) buffer)) size in
-    record {
-      count = simp length-append (omega (arith, w.count, l, ap length e));
-      room = h;
-      value = simp (front, v, e, post, append_assoc, length-append, drop-drop);
-    }
-
--- the same bytes, count and buffer in another form
-pub regroup :
-    {a buffer xs ys : List ℕ} {n m : ℕ} (b : List ℕ) → Wrote a n buffer xs → m ≡ n → ys ≡ xs → a ≡ b → Wrote b m buffer ys
-regroup {buffer = buffer} b w n v e =
-    record {
-      count = n ∙ w.count ∙ ap length e;
-      room = omega (arith, n, w.room);
-      value = v ∙ w.value ∙ ap (λ bs. over bs buffer) e;
-    }

@@ -1,16 +1,19 @@
-// Writing to the front of a buffer. Each writer answers how many bytes it wrote, and leaves the buffer as it was behind them.
-// The count goes beside the buffer, since a save lends each part what is left of it, and there is no heap to write to. A length
-// that is known to fit is narrowed by `as`, here and in `writing`, since no From narrows.
+// Writing to the front of a buffer. What is behind the bytes written stays as it was. A length that is known to fit is narrowed
+// by `as`, here and in `writing`, since no From narrows.
 ghost use Rattle.std.specs.Prelude.{◌≡◌, ◌+◌, ◌≤◌, length};
 ghost use Rattle.device.specs.Bytes.{four};
-ghost use Rattle.section.specs.Layout.{over, times, identity};
+ghost use Rattle.device.specs.Format.{body_size, sub_size};
+ghost use Rattle.section.specs.Layout.{over, identity};
+ghost use Rattle.section.specs.Writer.{HasRoom, with_bytes};
 
 use crate::names::NamesBefore;
-use device::numbers;
+use device::{Device, Movable, numbers};
 
 // How many bytes a number has.
 const NUMBER_SIZE: usize = 4;
 
+// Answers how many bytes it wrote. A save counts for itself, since it lends the tree what is left of its buffer: of a method of
+// `Writer` that lends a part of its field, the check proves no clause on what the buffer is afterwards.
 pub fn put(bytes: &[u8], out: &mut [u8]) -> usize
     requires { length bytes.now ≤ length out.old }
     ensures count { result ≡ length bytes.now }
@@ -21,45 +24,76 @@ pub fn put(bytes: &[u8], out: &mut [u8]) -> usize
     n
 }
 
-// Writes a number as four bytes.
-pub fn put_number(number: u32, out: &mut [u8]) -> usize
-    requires { 4 ≤ length out.old }
-    ensures count { result ≡ 4 }
-    ensures buffer { out.new ≡ over (four number) out.old }
-{
-    numbers::put_number(&mut out[..NUMBER_SIZE], number);
-    NUMBER_SIZE
+// A buffer that is written from its front on.
+#[derive(Drop)]
+pub(crate) struct Writer<'a> {
+    out: &'a mut [u8],
+    written: usize,
 }
 
-// Writes the number of the leaf after these names.
-pub fn put_leaf_number(before: &NamesBefore, out: &mut [u8]) -> usize
-    requires { 4 ≤ length out.old }
-    ensures count { result ≡ 4 }
-    ensures buffer { out.new ≡ over (four (length before.now)) out.old }
-{
-    put_number(before.number(), out)
-}
+#[tactic(auto, unfolding(crate::specs::Writer::with_bytes))]
+impl<'a> Writer<'a> {
+    pub(crate) fn new(out: &'a mut [u8]) -> Writer<'a>
+        ensures { result ≡ record { out = out.entry; written = 0 } }
+    {
+        Writer { out, written: 0 }
+    }
 
-// Writes how many of these names are that name.
-fn put_instance(before: &NamesBefore, name: &[u8], out: &mut [u8]) -> usize
-    requires { 4 ≤ length out.old }
-    ensures count { result ≡ 4 }
-    ensures buffer { out.new ≡ over (four (times name.now before.now)) out.old }
-{
-    put_number(before.instance(name), out)
-}
+    // How many bytes were written.
+    pub(crate) fn written(&self) -> usize
+        ensures { result ≡ self.now.written }
+    {
+        self.written
+    }
 
-// Writes the identity of the leaf after these names.
-pub fn put_identity(before: &NamesBefore, name: &[u8], out: &mut [u8]) -> usize
-    requires name { length name.now ≤ 16 }
-    requires room { 9 + length name.now ≤ length out.old }
-    ensures count { result ≡ length (identity before.now name.now) }
-    ensures size { result ≡ 9 + length name.now }
-    ensures buffer { out.new ≡ over (identity before.now name.now) out.old }
-{
-    let mut n = put_leaf_number(before, out);
-    n += put(&[name.len() as u8], &mut out[n..]);
-    n += put(name, &mut out[n..]);
-    n += put_instance(before, name, &mut out[n..]);
-    n
+    pub(crate) fn put(&mut self, bytes: &[u8])
+        requires { HasRoom self.old (length bytes.now) }
+        ensures { self.new ≡ with_bytes self.old bytes.now }
+    {
+        self.written += put(bytes, &mut self.out[self.written..]);
+    }
+
+    // Writes a number as four bytes.
+    pub(crate) fn put_number(&mut self, number: u32)
+        requires { HasRoom self.old 4 }
+        ensures { self.new ≡ with_bytes self.old (four number) }
+    {
+        let end = self.written + NUMBER_SIZE;
+        numbers::put_number(&mut self.out[self.written..end], number);
+        self.written = end;
+    }
+
+    // Writes the body of a version. It and the next differ in what they ask of the device alone; a function that takes that as a
+    // closure would need the clauses of both at the closures.
+    pub(crate) fn put_body<D: Movable>(&mut self, device: &D, version: u32)
+        requires { HasRoom self.old (body_size D.Movable.format version) }
+        ensures { self.new ≡ with_bytes self.old (D.Movable.format.body version (D.Device.meaning device.now)) }
+    {
+        let end = self.written + D::body_size(version);
+        device.write_body(version, &mut self.out[self.written..end]);
+        self.written = end;
+    }
+
+    // Writes the body of a subsection.
+    pub(crate) fn put_subsection_body<D: Movable>(&mut self, device: &D, subsection: D::Subsection)
+        requires { HasRoom self.old (sub_size D.Movable.format (D.Movable.numbered subsection)) }
+        ensures { self.new ≡ with_bytes self.old (D.Movable.format.sub (D.Movable.numbered subsection) (D.Device.meaning device.now)) }
+    {
+        let end = self.written + D::subsection_size(subsection);
+        device.write_subsection(subsection, &mut self.out[self.written..end]);
+        self.written = end;
+    }
+
+    // Writes the identity of the leaf after these names.
+    #[tactic(auto, using(crate::proofs::Writers::writes))]
+    pub(crate) fn put_identity(&mut self, before: &NamesBefore, name: &[u8])
+        requires name { length name.now ≤ 16 }
+        requires room { HasRoom self.old (9 + length name.now) }
+        ensures { self.new ≡ with_bytes self.old (identity before.now name.now) }
+    {
+        self.put_number(before.number());
+        self.put(&[name.len() as u8]);
+        self.put(name);
+        self.put_number(before.instance(name));
+    }
 }

@@ -10,12 +10,10 @@ use fault::Fault;
 fn first_unknown<D: Movable>(device: &D, edition: u32) -> Option<u8>
     ensures { result ≡ unknown D.Movable.format edition (D.Device.meaning device.now) }
 {
-    for subsection in D::subsections() {
-        if device.needs(*subsection) && !D::knows(edition, *subsection) {
-            return Some(D::number(*subsection));
-        }
-    }
-    None
+    D::subsections()
+        .iter()
+        .find(|subsection| device.needs(**subsection) && !D::knows(edition, **subsection))
+        .map(|subsection| D::number(*subsection))
 }
 
 // Refuses an edition that does not carry the state of a device, which is this leaf.
@@ -25,8 +23,8 @@ pub fn carried<D: Movable>(device: &D, leaf: u8, edition: u32) -> Result<(), Fau
     if let Some(field) = device.off_default(D::writes(edition)) {
         return Err(Fault::FieldNotCarried { leaf, field });
     }
-    match first_unknown(device, edition) {
-        Some(subsection) => Err(Fault::SubsectionNotCarried { leaf, subsection }),
-        None => Ok(()),
+    if let Some(subsection) = first_unknown(device, edition) {
+        return Err(Fault::SubsectionNotCarried { leaf, subsection });
     }
+    Ok(())
 }

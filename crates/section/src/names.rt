@@ -1,15 +1,14 @@
 // The names of the leaves before a leaf.
-ghost use Rattle.std.specs.Prelude.{◌≡◌, ℕ, ◌<◌, List, [], ◌∷◌, ◌++◌, length, map};
-ghost use Rattle.device.specs.Bytes.{same};
+ghost use Rattle.std.specs.Prelude.{◌≡◌, ℕ, ◌<◌, ◌≤◌, List, [], ◌∷◌, ◌++◌, length, map};
 ghost use Rattle.section.specs.Layout.{times};
 
 use arrayvec::ArrayVec;
 use std::marker::Model;
 
 // The most leaves that a board has.
-const MOST_LEAVES: usize = 16;
+pub const MOST_LEAVES: usize = 16;
 
-// In the order of the leaves. There are few, so that a count of them is narrowed by `as`: no From narrows.
+// In the order of the leaves, at most 16: `as` loses nothing of a count.
 #[derive(Drop)]
 pub struct NamesBefore {
     names: ArrayVec<&'static [u8], MOST_LEAVES>,
@@ -19,13 +18,6 @@ impl Model for NamesBefore {
     ghost Value = { List (List ℕ) };
 
     ghost view = { λ before. map (λ name. name.now) before.names.items };
-}
-
-// Whether a leaf has this name.
-fn is_name(known: &[u8], name: &[u8]) -> bool
-    ensures { result ≡ same name.now known.now }
-{
-    known == name
 }
 
 impl NamesBefore {
@@ -48,7 +40,8 @@ impl NamesBefore {
 
     // The number of the leaf that these names stand before.
     pub fn number(&self) -> u32
-        ensures { result ≡ length self.now }
+        ensures value { result ≡ length self.now }
+        ensures few { length self.now ≤ 16 }
     {
         self.names.len() as u32
     }
@@ -58,6 +51,6 @@ impl NamesBefore {
         ensures { result ≡ times name.now self.now }
     {
         let names = self.names.as_slice();
-        names.iter().filter(|known| is_name(known, name)).count() as u32
+        names.iter().filter(|known| **known == name).count() as u32
     }
 }

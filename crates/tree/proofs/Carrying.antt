@@ -1,6 +1,9 @@
 -- An edition carries a tree's state exactly where no leaf is refused; the highest edition carries every sound state.
 use Rattle.std.proofs.Common.{◌≡◌, ℕ, zero, suc, ◌+◌, ◌<◌, ◌≤◌, Bool, true, false, cond, not, ◌&&◌, List, [], ◌∷◌, ◌++◌, length, take, drop, Some, None, Option, sym, refl, ap, ◌∙◌, subst, ⊎_elim, arith, length-drop, take-append-drop}
 use Rattle.std.proofs.lemmas.Bool.{cond-true, cases_Bool, cases_eq, and_cases, and_left, and_right, cond-false, not_from_true, not-false, both_ways}
+use Rattle.std.proofs.lemmas.Bool.Decides.{nat_tests}
+use Rattle.std.proofs.lemmas.Option.{none-some}
+use Rattle.std.proofs.lemmas.List.{nil_from_length}
 use Rattle.device.specs.Bytes.{same, total}
 use Rattle.device.specs.Format.{Format, latest, count, needs, differ_from, off_default, unknown, unknown_from}
 use Rattle.fault.specs.declared.Fault.{Fault}
@@ -11,9 +14,6 @@ use Rattle.section.proofs.Comparing.{same-decides}
 use Rattle.tree.specs.Carrying.{first, uncarried}
 use Rattle.tree.specs.Tree.{Tree, leaf, bus, State, Sound, Lawful, Carried, leaves}
 
-some-none : {A : Type 0} (a : A) → Some a ≡ None → ⊥
-some-none a h = let z : ◌≡◌ {A = ℕ} 0 1 = cc in omega arith
-
 -- ---- fields off their defaults
 
 differ_same : (k : ℕ) (ns xs : List ℕ) → differ_from k ns xs xs ≡ None
@@ -22,15 +22,10 @@ differ_same k (n ∷ ns) xs =
     cond-true (same (take n xs) (take n xs)) _ (Some k) ((same-decides (take n xs) (take n xs)).1 refl)
     ∙ differ_same (suc k) ns (drop n xs)
 
-both-empty : (xs ys : List ℕ) → length xs ≡ 0 → length ys ≡ 0 → xs ≡ ys
-both-empty [] [] p q = refl
-both-empty [] (y ∷ ys) p q = absurd (omega arith)
-both-empty (x ∷ xs) ys p q = absurd (omega arith)
-
 -- bodies with fields of these sizes that differ in none are equal
 differ-none :
     (k : ℕ) (ns xs ys : List ℕ) → length xs ≡ total ns → length ys ≡ total ns → differ_from k ns xs ys ≡ None → xs ≡ ys
-differ-none k [] xs ys p q h = both-empty xs ys p q
+differ-none k [] xs ys p q h = nil_from_length xs p ∙ sym (nil_from_length ys q)
 differ-none k (n ∷ ns) xs ys p q h =
     let p' : length (drop n xs) ≡ total ns = omega (arith, length-drop n xs) in
     let q' : length (drop n ys) ≡ total ns = omega (arith, length-drop n ys) in
@@ -44,7 +39,7 @@ differ-none k (n ∷ ns) xs ys p q h =
         let front = (same-decides (take n xs) (take n ys)).0 e in
         let back = later g in
         sym (take-append-drop n xs) ∙ (λ i. front i ++ back i) ∙ take-append-drop n ys
-    go false e later g = absurd (some-none k g)
+    go false e later g = absurd (none-some k (sym g))
 
 -- ---- unknown subsections
 
@@ -57,14 +52,10 @@ module _ {S : Type 0} (f : Format S) (e : ℕ) (s : S) where
   bars k = needs f s k && not (knows k)
 
   bars-not : (k : ℕ) → (needs f s k ≡ true → knows k ≡ true) → bars k ≡ false
-  bars-not k h =
-      ⊎_elim (λ need. and_right (needs f s k) _ (not_from_true _ (h need))) (λ free. and_left (needs f s k) _ free)
-      (cases_Bool (needs f s k))
+  bars-not k h = grind (arith, nat_tests)
 
   not-bars : (k : ℕ) → bars k ≡ false → needs f s k ≡ true → knows k ≡ true
-  not-bars k h need =
-      ⊎_elim (λ free. absurd (both_ways (needs f s k) free need)) (λ known. not-false (knows k) known)
-      (and_cases (needs f s k) (not (knows k)) h)
+  not-bars k h need = grind (arith, nat_tests)
 
   all_none :
       (k n : ℕ) → ((j : ℕ) → k ≤ j → j < k + n → needs f s j ≡ true → knows j ≡ true) → unknown_from f e s k n ≡ None
@@ -81,7 +72,7 @@ module _ {S : Type 0} (f : Format S) (e : ℕ) (s : S) where
       go :
           (b : Bool) → bars k ≡ b → (suc k ≤ j → unknown_from f e s (suc k) n ≡ None → knows j ≡ true)
           → cond b (Some k) (unknown_from f e s (suc k) n) ≡ None → knows j ≡ true
-      go true u later g = absurd (some-none k g)
+      go true u later g = absurd (none-some k (sym g))
       go false u later g =
           ⊎_elim (λ same. subst (λ (i : ℕ). needs f s i ≡ true → knows i ≡ true) same (not-bars k u) need)
           (λ other. later (omega arith) g) (cases_eq k j)
@@ -89,13 +80,10 @@ module _ {S : Type 0} (f : Format S) (e : ℕ) (s : S) where
 -- ---- leaves and trees
 
 lacking-none : (n : ℕ) (a b : Option ℕ) → lacking n a b ≡ None → (a ≡ None) × (b ≡ None)
-lacking-none n None None h = (refl, refl)
-lacking-none n None (Some k) h = absurd (some-none _ h)
-lacking-none n (Some field) b h = absurd (some-none _ h)
+lacking-none n a b h = grind (arith, nat_tests)
 
 first-none : (a b : Option Fault) → first a b ≡ None → (a ≡ None) × (b ≡ None)
-first-none None b h = (refl, h)
-first-none (Some x) b h = absurd (some-none _ h)
+first-none a b h = grind (arith, nat_tests)
 
 pub carried_none : (t : Tree) (n e : ℕ) (s : State t) → Carried t e s → uncarried t n e s ≡ None
 carried_none (leaf k f) n e s c =
@@ -143,7 +131,7 @@ fives : (G : Fault) → (numbers_of G).number ≡ 5 → Fives (Some G)
 fives G five F h = ap (λ (x : Fault). (numbers_of x).number) (some_is F G (sym h)) ∙ five
 
 lacking-fives : (n : ℕ) (a b : Option ℕ) → Fives (lacking n a b)
-lacking-fives n None None F h = absurd (some-none F (sym h))
+lacking-fives n None None F h = absurd (none-some F h)
 lacking-fives n None (Some k) F h = fives (SubsectionNotCarried n k) refl F h
 lacking-fives n (Some field) b F h = fives (FieldNotCarried n field) refl F h
 

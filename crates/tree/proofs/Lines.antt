@@ -2,23 +2,15 @@
 use Rattle.std.proofs.Common.{◌≡◌, ℕ, ◌+◌, ◌-◌, ◌*◌, ◌/◌, ◌%◌, ◌^◌, ◌<◌, ◌≤◌, min, Bool, true, false, sym, ap, ◌∙◌, mul-le-mul_right, mod-eq_of_lt, mul_assoc, mul_comm, add-mul, one-mul, arith, lit<, pow_mono, pow-add}
 use native.Mathlib.Nat.{mod-add-div', add-mul-mod_self_right}
 use native.Mathlib.Nat.{mod-add-mod, add-mod-mod}
+use Rattle.std.proofs.lemmas.Nat.{mul-mod_first, mul-add-lt}
 use Rattle.device.specs.Bytes.{flag}
 use Rattle.tree.specs.Tree.{Tree, leaf, bus, State, leaves, lines}
-
--- a factor may be cut before the product is
-mul-mod : (r p m : ℕ) → (r % m * p) % m ≡ (r * p) % m
-mul-mod r p m =
-    let parts : r % m * p + r / m * m * p ≡ r * p = sym (add-mul (r % m) (r / m * m) p) ∙ ap (λ x. x * p) (mod-add-div' r m) in
-    let turned : r / m * m * p ≡ r / m * p * m = mul_assoc (r / m) m p ∙ ap (λ x. r / m * x) (mul_comm m p) ∙ sym (mul_assoc (r / m) p m) in
-    sym (add-mul-mod_self_right (r % m * p) (r / m * p) m)
-    ∙ ap (λ x. (r % m * p + x) % m) (sym turned)
-    ∙ ap (λ x. x % m) parts
 
 -- both trees' lines, the right tree's behind the n leaves of the left, where k of them fit
 pub joined : (l r n k : ℕ) → k ≡ min n 18446744073709551615 → k < 16 → (l % 65536 + (r % 65536 * 2 ^ k) % 65536) % 65536 ≡ (l + r * 2 ^ n) % 65536
 joined l r n k e h =
     let n-is : k ≡ n = omega arith in
-    ap (λ x. (l % 65536 + x) % 65536) (mul-mod r (2 ^ k) 65536)
+    ap (λ x. (l % 65536 + x) % 65536) (mul-mod_first r (2 ^ k) 65536)
     ∙ mod-add-mod l 65536 ((r * 2 ^ k) % 65536)
     ∙ add-mod-mod l (r * 2 ^ k) 65536
     ∙ ap (λ x. (l + r * 2 ^ x) % 65536) n-is
@@ -33,8 +25,7 @@ left_alone l r n k e h =
 -- two numbers of m and n bits, side by side
 side_by_side : (a b m n : ℕ) → a < 2 ^ m → b < 2 ^ n → a + b * 2 ^ m < 2 ^ (m + n)
 side_by_side a b m n p q =
-    let above : b + 1 ≤ 2 ^ n = omega arith in
-    omega (arith, pow-add 2 m n, mul_comm (2 ^ m) (2 ^ n), mul-le-mul_right (2 ^ m) above, add-mul b 1 (2 ^ m), one-mul (2 ^ m))
+    omega (arith, pow-add 2 m n, mul-add-lt b (2 ^ m) a (2 ^ n) q p)
 
 flag_small : (b : Bool) → flag b < 2
 flag_small true = lit< tt

@@ -44,6 +44,7 @@ fn lines_beside<L: Node, R: Node>(left: &L, right: &R) -> u16
     left.lines().wrapping_add(right.lines() << below)
 }
 
+// Each call asks `beyond` for itself: with the two sides as closures each would still name both.
 impl<L: Node, R: Node> Node for Bus<L, R> {
     ghost model = { bus L.Node.model R.Node.model };
 

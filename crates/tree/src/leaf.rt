@@ -51,7 +51,7 @@ impl<D: Movable> Node for Leaf<D> {
         (0, address)
     }
 
-    fn has_input(_address: u32) -> bool {
+    fn has_input(address: u32) -> bool {
         D::has_input()
     }
 
@@ -67,7 +67,7 @@ impl<D: Movable> Node for Leaf<D> {
         self.device.write(address, byte)
     }
 
-    fn feed(&mut self, _address: u32, byte: u8) {
+    fn feed(&mut self, address: u32, byte: u8) {
         self.device.feed(byte);
     }
 

@@ -22,8 +22,8 @@ pub trait Node {
     // The state that its devices are in.
     ghost state: { Self → State model };
 
-    // Does nothing: it promises that every device of the tree meets its obligations. It is no law, as `lawful` of a device is
-    // none, nor is `closed`.
+    // Does nothing: it promises that every device of the tree meets its obligations. It rests on what each
+    // device's function promises, as `closed` does, and so is no law.
     fn lawful()
         ensures { Lawful model };
 

@@ -5,6 +5,8 @@ use Rattle.std.specs.List.{position, position_from}
 use Rattle.std.specs.Option.{option_map}
 use Rattle.std.proofs.lemmas.Iterator.Adapters.{position_from-zero}
 use Rattle.std.proofs.lemmas.Bool.{false≢true, and_from, and_parts, eq-eqb, eqb-true, leb-true, not-false}
+use Rattle.std.proofs.lemmas.Bool.Decides.{nat_tests}
+use Rattle.std.proofs.lemmas.Slice.Eq.{bytes_eq-Decides}
 use Rattle.device.specs.Bytes.{flag, same, differs}
 use Rattle.uart.specs.Stream.{within, zeros}
 
@@ -21,27 +23,13 @@ flag-byte true = refl
 flag-byte false = refl
 
 pub one-flag : (n : ℕ) → n ≤ 1 → flag (eqb n 1) ≡ n
-one-flag zero h = refl
-one-flag (suc zero) h = refl
-one-flag (suc (suc n)) h = absurd (omega arith)
-
-same_refl : (xs : List ℕ) → same xs xs ≡ true
-same_refl [] = refl
-same_refl (x ∷ xs) = and_from (eqb x x) (same xs xs) (eq-eqb x x refl) (same_refl xs)
-
-same_true : (xs ys : List ℕ) → same xs ys ≡ true → xs ≡ ys
-same_true [] [] h = refl
-same_true [] (y ∷ ys) h = absurd (false≢true h)
-same_true (x ∷ xs) [] h = absurd (false≢true h)
-same_true (x ∷ xs) (y ∷ ys) h =
-    let p = and_parts (eqb x y) (same xs ys) h in
-    λ i. eqb-true x y p.0 i ∷ same_true xs ys p.1 i
+one-flag n h = grind (arith, nat_tests)
 
 pub differs-not : (xs ys : List ℕ) → xs ≡ ys → differs xs ys ≡ false
-differs-not xs ys e = ap (λ zs. differs xs zs) (sym e) ∙ ap not (same_refl xs)
+differs-not xs ys e = ap not ((bytes_eq-Decides xs ys).1 e)
 
 pub differs_false : (xs ys : List ℕ) → differs xs ys ≡ false → xs ≡ ys
-differs_false xs ys h = same_true xs ys (not-false (same xs ys) h)
+differs_false xs ys h = (bytes_eq-Decides xs ys).0 (not-false (same xs ys) h)
 
 -- a field that is passed, and what comes after it
 chosen : (ok : Bool) (k : ℕ) (rest : Option ℕ) → cond ok rest (Some k) ≡ None → (ok ≡ true) × (rest ≡ None)

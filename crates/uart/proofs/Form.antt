@@ -1,5 +1,5 @@
 -- The form of the serial port: its name, its subsections' names, the sizes of what it writes.
-use Rattle.std.proofs.Common.{◌≡◌, ℕ, zero, suc, ◌<◌, ◌≤◌, Bool, true, ◌&&◌, ltb, leb, List, length, refl, ap, arith}
+use Rattle.std.proofs.Common.{◌≡◌, ℕ, zero, suc, ◌<◌, ◌≤◌, Bool, true, ◌&&◌, ltb, leb, List, length, refl, ap, arith, rules}
 use Rattle.std.specs.List.{AllByRecursion, list_all}
 use Rattle.std.proofs.lemmas.List.Elements.{All-weaker, recursion_from_All}
 use Rattle.std.proofs.lemmas.List.Sums.{AllPass-from_list_all}
@@ -12,18 +12,6 @@ use Rattle.uart.specs.Stream.{numbered, sub, default, format}
 use Rattle.uart.specs.declared.state.UartState.{UartState}
 use Rattle.uart.proofs.Numbers.{numbers}
 use Rattle.uart.proofs.Padded.{capacity-le, padded-size}
-
--- what holds of each number that passes a test
-tested : (p : ℕ → Bool) (P : ℕ → Type 0) → ((x : ℕ) → p x ≡ true → P x) → (xs : List ℕ) → list_all p xs ≡ true → AllByRecursion P xs
-tested p P f xs h = recursion_from_All P xs (All-weaker (λ x. p x ≡ true) P f xs (AllPass-from_list_all p xs h))
-
-bytes : (xs : List ℕ) → list_all (λ b. ltb b 256) xs ≡ true → Bytes xs
-bytes xs h = tested (λ b. ltb b 256) (λ b. b < 256) (λ b. ltb-true b 256) xs h
-
-letters : (xs : List ℕ) → list_all (λ c. leb 0x61 c && leb c 0x7a) xs ≡ true → AllByRecursion (λ c. (0x61 ≤ c) × (c ≤ 0x7a)) xs
-letters xs h =
-    tested (λ c. leb 0x61 c && leb c 0x7a) (λ c. (0x61 ≤ c) × (c ≤ 0x7a))
-    (λ c e. let q = and_parts (leb 0x61 c) (leb c 0x7a) e in (leb-true 0x61 c q.0, leb-true c 0x7a q.1)) xs h
 
 -- the two names are of different lengths
 apart : (j k : ℕ) → j < k → k < count format → title format j ≡ title format k → ⊥
@@ -45,13 +33,13 @@ default-size b = numbers (λ k. length (default (numbered k) b) ≡ sub_size for
 pub formed : Formed kind format
 formed = record {
   name-length = (omega arith, omega arith);
-  name-letters = letters kind.name refl;
+  name-letters = search rules;
   width = (omega arith, omega arith);
   few = omega arith;
   title-length =
       numbers (λ k. (1 ≤ length (title format k)) × (length (title format k) ≤ 32))
       (omega arith, omega arith) (omega arith, omega arith);
-  title-bytes = numbers (λ k. Bytes (title format k)) (bytes (title format 0) refl) (bytes (title format 1) refl);
+  title-bytes = numbers (λ k. Bytes (title format k)) (search rules) (search rules);
   apart = apart;
   since = (omega arith, omega arith);
   last = omega arith;

@@ -1,8 +1,7 @@
 // The serial port.
-ghost use Rattle.std.specs.Prelude.{◌<◌, ◌≤◌, length};
-ghost use Rattle.uart.specs.Uart.{capacity};
+ghost use Rattle.uart.specs.Uart.{Sound};
 
-use crate::queue::Queue;
+use crate::state::UartState;
 
 mod guest;
 mod registers;
@@ -10,17 +9,6 @@ mod stream;
 
 #[derive(Drop)]
 pub struct Uart {
-    dll: u8,
-    dlm: u8,
-    ier: u8,
-    lcr: u8,
-    mcr: u8,
-    scr: u8,
-    oe: bool,
-    fe: bool,
-    ti: bool,
-    queue: Queue,
-    ghost enabled: { ier < 16 },
-    ghost modem: { mcr < 32 },
-    ghost room: { length queue ≤ capacity fe },
+    state: UartState,
+    ghost sound: { Sound state },
 }

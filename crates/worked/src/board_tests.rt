@@ -45,12 +45,11 @@ fn numbers(number: u8, section: u32, detail: u64) -> Numbers {
     }
 }
 
-// The six numbers of a refusal; a call that is served fails the test. A `Fail` has to be used, so `ok_or` takes none.
+// The six numbers of a refusal; a call that is served fails the test.
 fn refusal<A: Drop>(res: Result<A, Fault>) -> Result<Numbers, Fail> {
-    match res {
-        Ok(_) => Err(Fail::new("the call is served")),
-        Err(fault) => Ok(fault.numbers()),
-    }
+    res.err()
+        .map(|fault| fault.numbers())
+        .ok_or_else(|| Fail::new("the call is served"))
 }
 
 // The functions below speak of any tree: at a named one, every call of a test would be worked out in its proof.

@@ -18,9 +18,7 @@ fn reads(rt: &impl Abort, line: &str, call: Call) -> Result<(), Fail> {
 
 // The line is refused, in these words.
 fn refuses(rt: &impl Abort, heap: Global, line: &str, words: &str) -> Result<(), Fail> {
-    let Err(mistake) = read_line(line) else {
-        return Err(Fail::new(line));
-    };
+    let mistake = read_line(line).err().ok_or_else(|| Fail::new(line))?;
     let said = mistake.to_string(heap)?;
     assert!(rt; said.as_str() == words, "{}", line);
     Ok(())

@@ -18,21 +18,23 @@ impl Uart {
         ensures { view result ≡ rules.fresh }
     {
         Uart {
-            dll: 0,
-            dlm: 0,
-            ier: 0,
-            lcr: 0,
-            mcr: 0,
-            scr: 0,
-            oe: false,
-            fe: false,
-            ti: false,
-            queue: Queue::new(),
+            state: UartState {
+                dll: 0,
+                dlm: 0,
+                ier: 0,
+                lcr: 0,
+                mcr: 0,
+                scr: 0,
+                oe: false,
+                fe: false,
+                ti: false,
+                queue: Queue::new(),
+            },
         }
     }
 }
 
-// How many bytes the queue holds, by FE.
+// How many bytes the queue can hold, by FE.
 pub(super) fn capacity(fe: bool) -> u8
     ensures { result ≡ rules.capacity fe }
 {
@@ -66,44 +68,44 @@ impl Device for Uart {
 
     fn read(&mut self, offset: u32) -> u8 {
         match self.register(offset) {
-            Register::Data => self.queue.pop().unwrap_or(0),
-            Register::InterruptEnable => self.ier,
-            Register::DivisorLow => self.dll,
-            Register::DivisorHigh => self.dlm,
+            Register::Data => self.state.queue.pop().unwrap_or(0),
+            Register::InterruptEnable => self.state.ier,
+            Register::DivisorLow => self.state.dll,
+            Register::DivisorHigh => self.state.dlm,
             Register::Identification => self.read_identification(),
-            Register::LineControl => self.lcr,
-            Register::ModemControl => self.mcr,
+            Register::LineControl => self.state.lcr,
+            Register::ModemControl => self.state.mcr,
             Register::LineStatus => self.read_line_status(),
             Register::ModemStatus => MODEM_READY,
-            Register::Scratch => self.scr,
+            Register::Scratch => self.state.scr,
         }
     }
 
     fn write(&mut self, offset: u32, byte: u8) -> Option<u8> {
         match self.register(offset) {
             Register::Data => {
-                self.ti = true;
+                self.state.ti = true;
                 return Some(byte);
             }
             Register::InterruptEnable => self.write_enable(byte),
-            Register::DivisorLow => self.dll = byte,
-            Register::DivisorHigh => self.dlm = byte,
+            Register::DivisorLow => self.state.dll = byte,
+            Register::DivisorHigh => self.state.dlm = byte,
             Register::Identification => self.write_control(byte),
-            Register::LineControl => self.lcr = byte,
-            Register::ModemControl => self.mcr = byte % 32,
+            Register::LineControl => self.state.lcr = byte,
+            Register::ModemControl => self.state.mcr = byte % 32,
             Register::LineStatus | Register::ModemStatus => {}
-            Register::Scratch => self.scr = byte,
+            Register::Scratch => self.state.scr = byte,
         }
         None
     }
 
     fn feed(&mut self, byte: u8) {
-        if self.queue.len() < usize::from(capacity(self.fe)) {
-            self.queue.push(byte);
+        if self.state.queue.len() < usize::from(capacity(self.state.fe)) {
+            self.state.queue.push(byte);
         } else {
-            self.oe = true;
-            if !self.fe {
-                self.queue = Queue::filled(&[byte]);
+            self.state.oe = true;
+            if !self.state.fe {
+                self.state.queue = Queue::filled(&[byte]);
             }
         }
     }
@@ -116,5 +118,5 @@ impl Device for Uart {
 
     ghost span = { (omega arith, omega arith) };
 
-    ghost sound = { λ port. record { ier = port.enabled; mcr = port.modem; queue = port.room } };
+    ghost sound = { λ port. port.sound };
 }

@@ -69,25 +69,25 @@ impl Uart {
     pub(super) fn register(&self, offset: u32) -> Register
         ensures { result ≡ rules.register (rules.divisor_access (view self.now)) offset }
     {
-        Register::at(bit(DIVISOR_ACCESS, self.lcr), offset)
+        Register::at(bit(DIVISOR_ACCESS, self.state.lcr), offset)
     }
 
     // Whether a byte waits.
     pub(super) fn waiting(&self) -> bool
         ensures { result ≡ rules.waiting (view self.now) }
     {
-        self.queue.len() > 0
+        self.state.queue.len() > 0
     }
 
     // The enabled interrupt that comes first.
     pub(super) fn pending(&self) -> Option<Interrupt>
         ensures { result ≡ rules.pending (view self.now) }
     {
-        if bit(OVERRUN_ENABLE, self.ier) && self.oe {
+        if bit(OVERRUN_ENABLE, self.state.ier) && self.state.oe {
             Some(Interrupt::Overrun)
-        } else if bit(RECEIVED_ENABLE, self.ier) && self.waiting() {
+        } else if bit(RECEIVED_ENABLE, self.state.ier) && self.waiting() {
             Some(Interrupt::Received)
-        } else if bit(TRANSMITTER_ENABLE, self.ier) && self.ti {
+        } else if bit(TRANSMITTER_ENABLE, self.state.ier) && self.state.ti {
             Some(Interrupt::TransmitterEmpty)
         } else {
             None
@@ -100,10 +100,10 @@ impl Uart {
     {
         let pending = self.pending();
         if let Some(Interrupt::TransmitterEmpty) = pending {
-            self.ti = false;
+            self.state.ti = false;
         }
         let number = identification(pending);
-        if self.fe {
+        if self.state.fe {
             number + QUEUE_ENABLED
         } else {
             number
@@ -117,10 +117,10 @@ impl Uart {
         if self.waiting() {
             status += DATA_READY;
         }
-        if self.oe {
+        if self.state.oe {
             status += OVERRUN;
         }
-        self.oe = false;
+        self.state.oe = false;
         status
     }
 
@@ -128,10 +128,10 @@ impl Uart {
     pub(super) fn write_enable(&mut self, byte: u8)
         ensures { view self.new ≡ rules.write_enable (view self.old) byte }
     {
-        if bit(TRANSMITTER_ENABLE, byte) && !bit(TRANSMITTER_ENABLE, self.ier) {
-            self.ti = true;
+        if bit(TRANSMITTER_ENABLE, byte) && !bit(TRANSMITTER_ENABLE, self.state.ier) {
+            self.state.ti = true;
         }
-        self.ier = byte % 16;
+        self.state.ier = byte % 16;
     }
 
     // Enables or disables the queue, and empties it where that changes or the guest asks for it.
@@ -139,9 +139,9 @@ impl Uart {
         ensures { view self.new ≡ rules.write_control (view self.old) byte }
     {
         let enable = bit(QUEUE_ENABLE, byte);
-        if self.fe != enable || enable && bit(QUEUE_CLEAR, byte) {
-            self.queue = Queue::new();
+        if self.state.fe != enable || enable && bit(QUEUE_CLEAR, byte) {
+            self.state.queue = Queue::new();
         }
-        self.fe = enable;
+        self.state.fe = enable;
     }
 }

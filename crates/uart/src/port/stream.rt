@@ -1,6 +1,5 @@
 // How the serial port's state travels.
 ghost use Rattle.std.specs.Prelude.{◌≡◌, length};
-ghost use Rattle.device.specs.Bytes.{differs};
 ghost use Rattle.device.specs.Format.{needs as needs_in};
 ghost use Rattle.uart.specs.Stream as stream;
 ghost use Rattle.uart.specs.View.{view};
@@ -21,45 +20,37 @@ mod adopt;
 mod check;
 mod layout;
 
-// Whether a subsection is not its default. It stays a function: with the comparison in `is_needed` the check's search
-// gave up at one of its limits.
-fn differ(own: &[u8], default: &[u8]) -> bool
-    ensures { result ≡ differs own.now default.now }
-{
-    own != default
-}
-
 impl Uart {
     // Whether the queue is enabled or a byte waits.
     fn needs_fifo(&self) -> bool
         ensures { result ≡ needs_in stream.format (view self.now) (stream.number Fifo) }
     {
-        self.fe || self.waiting()
+        self.state.fe || self.waiting()
     }
 
     // Whether the latch is not what IER makes of it.
     fn needs_latch(&self) -> bool
         ensures { result ≡ needs_in stream.format (view self.now) (stream.number Latch) }
     {
-        self.ti != bit(TRANSMITTER_ENABLE, self.ier)
+        self.state.ti != bit(TRANSMITTER_ENABLE, self.state.ier)
     }
 
-    // Writes in place: an array that is returned would be copied.
+    // It stays a slice with a `requires`: an array that is returned would only be copied to `out`.
     fn write_fifo(&self, out: &mut [u8])
         requires { length out.old ≡ 18 }
         ensures { out.new ≡ stream.sub Fifo (view self.now) }
     {
-        out[FE] = u8::from(self.fe);
+        out[FE] = u8::from(self.state.fe);
         // At most 16 bytes wait, and no From narrows.
-        out[COUNT] = self.queue.len() as u8;
-        self.queue.write(&mut out[BYTES..]);
+        out[COUNT] = self.state.queue.len() as u8;
+        self.state.queue.write(&mut out[BYTES..]);
     }
 
     fn write_latch(&self, out: &mut [u8])
         requires { length out.old ≡ 1 }
         ensures { out.new ≡ stream.sub Latch (view self.now) }
     {
-        out.copy_from_slice(&[u8::from(self.ti)]);
+        out.copy_from_slice(&[u8::from(self.state.ti)]);
     }
 }
 
@@ -118,13 +109,13 @@ impl Movable for Uart {
 
     fn write_body(&self, version: u32, out: &mut [u8]) {
         out.copy_from_slice(&[
-            self.dll,
-            self.dlm,
-            self.ier,
-            self.lcr,
-            self.mcr,
-            self.scr,
-            u8::from(self.oe),
+            self.state.dll,
+            self.state.dlm,
+            self.state.ier,
+            self.state.lcr,
+            self.state.mcr,
+            self.state.scr,
+            u8::from(self.state.oe),
         ]);
     }
 
@@ -135,7 +126,7 @@ impl Movable for Uart {
         }
     }
 
-    fn check_body(version: u32, body: &[u8]) -> Option<u16> {
+    fn check_body(version: u32, body: &[u8]) -> Result<(), u16> {
         check_body(array(body))
     }
 
@@ -144,7 +135,7 @@ impl Movable for Uart {
         body: &[u8],
         subsection: UartSubsection,
         own: &[u8],
-    ) -> Option<u16> {
+    ) -> Result<(), u16> {
         match subsection {
             UartSubsection::Fifo => check_fifo(array(own)),
             UartSubsection::Latch => check_latch(array(own)),
@@ -153,8 +144,8 @@ impl Movable for Uart {
 
     fn is_needed(version: u32, body: &[u8], subsection: UartSubsection, own: &[u8]) -> bool {
         match subsection {
-            UartSubsection::Fifo => differ(own, &FIFO_DEFAULT),
-            UartSubsection::Latch => differ(own, &latch_default(array(body))),
+            UartSubsection::Fifo => own != FIFO_DEFAULT.as_slice(),
+            UartSubsection::Latch => own != latch_default(array(body)).as_slice(),
         }
     }
 

@@ -1,39 +1,29 @@
-use Rattle.std.proofs.Common.{◌≡◌, ℕ, List, [], ◌∷◌, ◌++◌, length, refl, ap, append_assoc, arith}
-use Rattle.device.specs.Bytes.{four}
-use Rattle.device.specs.Format.{needed, section_by}
-use Rattle.section.specs.Layout.{identity, subsections, laid}
-use Rattle.section.proofs.Writes.{start, step, fill, regroup}
+use Rattle.std.proofs.Common.{◌≡◌, arith}
+use Rattle.device.specs.Format.{section_by}
+use Rattle.section.specs.Layout.{laid}
+use Rattle.section.specs.Writer.{with_bytes}
+use Rattle.section.proofs.Sizes.{length-identity, length-laid}
+use Rattle.section.proofs.Writers.{then, writes}
 use Rattle.section.proofs.writing.put_section.Goals as goal
 
-joined :
-    (i v b s n : List ℕ) → ((((((4 ∷ []) ++ i) ++ v) ++ b) ++ s) ++ (0x7e ∷ [])) ++ n ≡ 4 ∷ i ++ (v ++ (b ++ (s ++ (0x7e ∷ n))))
-joined i v b s n = simp append_assoc
+pub put_body-requires-after_bounds : goal.put_body-requires-after_bounds
+put_body-requires-after_bounds g c =
+    grind (arith, writes, length-identity, c.lawful.ensures.formed.body-size, g.met.D.Device.sound)
+
+pub put_subsections-requires-after_bounds : goal.put_subsections-requires-after_bounds
+put_subsections-requires-after_bounds g c =
+    grind (arith, writes, length-identity, c.lawful.ensures.formed.body-size, g.met.D.Device.sound)
 
 pub returns : goal.returns
 returns g c =
     let f = g.D.Movable.format in
-    let s = g.D.Device.meaning c.args.device.now in
-    let name = g.D.Device.kind.name in
-    let before = c.args.before.now in
-    let version = (f.edition c.args.edition).writes in
-    let row = c.writes-version.ensures in
-    let is = c.name.ensures in
-    let size = ap length is in
-    let length-body = ap (λ v. length (f.body v s)) row in
-    let tag = start c.args.out.now (4 ∷ []) refl c.put-n.ensures.count (omega arith) c.put-n.ensures.buffer in
-    let id = step (identity before name) (ap (identity before) is) tag c.put_identity-n.ensures.count (omega arith)
-    c.put_identity-n.ensures.buffer in
-    let number = step (four version) (ap four row) id c.put_number-n.ensures.count (omega arith)
-    c.put_number-n.ensures.buffer in
-    let long = c.lawful.ensures.formed.body-size c.writes-version.result s (g.met.D.Device.sound c.args.device.now) in
-    let body = fill (f.body version s) (ap (λ v. f.body v s) row) number (omega arith) (omega arith) c.write_body.ensures (omega arith) in
-    let subs = step (subsections f (needed f s)) refl body c.put_subsections-n.ensures.count (omega arith)
-    c.put_subsections-n.ensures.buffer in
-    let close = step (0x7e ∷ []) refl subs c.put-n-2.ensures.count (omega arith) c.put-n-2.ensures.buffer in
-    let end = step (four (length before)) refl close c.put_leaf_number-n.ensures.count (omega arith)
-    c.put_leaf_number-n.ensures.buffer in
-    let bytes = laid g.D.Device.kind f before (section_by f c.args.edition s) in
-    let last = four (length before) in
-    let parts = joined (identity before name) (four version) (f.body version s) (subsections f (needed f s)) last in
-    let whole = regroup bytes end refl refl parts in
-    record { count = whole.count; size = omega arith; buffer = whole.value }
+    let x = section_by f c.args.edition (g.D.Device.meaning c.args.device.now) in
+    let size = length-laid g.D.Device.kind f c.args.before.now x in
+    let id = rw c.name.ensures at c.put_identity.ensures in
+    let version = rw c.writes-version.ensures at c.put_number.ensures in
+    let body = rw c.writes-version.ensures at c.put_body.ensures in
+    let last = rw c.number.ensures.value at c.put_number-2.ensures in
+    let end = then _ _ _ c.put_subsections.ensures (then _ _ _ c.put-2.ensures last) in
+    let whole : c.put_number-2.new.self ≡ with_bytes c.new-writer.result (laid g.D.Device.kind f c.args.before.now x) =
+    then _ _ _ c.put.ensures (then _ _ _ id (then _ _ _ version (then _ _ _ body end))) in
+    grind (arith, writes, whole, size, c.new-writer.ensures)

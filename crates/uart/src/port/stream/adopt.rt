@@ -1,5 +1,5 @@
 // How a serial port takes on what a section says.
-ghost use Rattle.std.specs.Prelude.{◌≡◌, ◌<◌, ◌≤◌, true, take, drop, ◌==◌, slice_index};
+ghost use Rattle.std.specs.Prelude.{◌≡◌, ◌<◌, ◌≤◌, ◌↔◌, true, take, drop, ◌==◌, slice_index, IsOk, OnOk};
 ghost use Rattle.device.specs.Table.{Table, section_of, adopting};
 ghost use Rattle.uart.specs.Stream as stream;
 ghost use Rattle.uart.specs.Uart.{capacity};
@@ -7,12 +7,11 @@ ghost use Rattle.uart.specs.View.{view};
 
 use super::check::{check_body, check_fifo, check_latch};
 use super::layout::{
-    BODY_SIZE, BYTES, COUNT, DLL, DLM, FE, FIFO_DEFAULT, FIFO_SIZE, IER, LATCH_SIZE, LCR, MCR, OE,
-    SCR, TI, latch_default,
+    BODY_SIZE, BYTES, COUNT, FE, FIFO_DEFAULT, FIFO_SIZE, LATCH_SIZE, TI, latch_default,
 };
 use crate::port::Uart;
 use crate::queue::Queue;
-use crate::state::UartSubsection;
+use crate::state::{UartState, UartSubsection};
 use device::adoption::NotAdopted;
 use device::bytes::array;
 
@@ -25,16 +24,16 @@ struct Parts<'a> {
 }
 
 impl Parts<'_> {
-    // Whether all three pass; then the fields are in their spans.
-    fn passes(&self) -> bool
-        ensures answer { result ≡ stream.passing self.now.body.now self.now.fifo.now self.now.latch.now }
-        ensures ier { result ≡ true → slice_index self.now.body.now 2 < 16 }
-        ensures mcr { result ≡ true → slice_index self.now.body.now 4 < 32 }
-        ensures count { result ≡ true → slice_index self.now.fifo.now 1 ≤ capacity (slice_index self.now.fifo.now 0 == 1) }
+    // Passes where all three pass; then the fields are in their spans.
+    fn check(&self) -> Result<(), NotAdopted>
+        ensures answer { IsOk result ↔ (stream.passing self.now.body.now self.now.fifo.now self.now.latch.now ≡ true) }
+        ensures ier { OnOk result (slice_index self.now.body.now 2 < 16) }
+        ensures mcr { OnOk result (slice_index self.now.body.now 4 < 32) }
+        ensures count { OnOk result (slice_index self.now.fifo.now 1 ≤ capacity (slice_index self.now.fifo.now 0 == 1)) }
     {
-        check_body(self.body).is_none()
-            && check_fifo(self.fifo).is_none()
-            && check_latch(self.latch).is_none()
+        check_body(self.body).map_err(|_| NotAdopted)?;
+        check_fifo(self.fifo).map_err(|_| NotAdopted)?;
+        check_latch(self.latch).map_err(|_| NotAdopted)
     }
 
     // The queue of a uart/fifo that has passed.
@@ -52,19 +51,20 @@ impl Uart {
     fn adopt_parts(&mut self, parts: &Parts<'_>) -> Result<(), NotAdopted>
         ensures { (result, view self.new) ≡ adopting (stream.adopt_parts parts.now.body.now parts.now.fifo.now parts.now.latch.now) (view self.old) }
     {
-        if !parts.passes() {
-            return Err(NotAdopted);
-        }
-        self.dll = parts.body[DLL];
-        self.dlm = parts.body[DLM];
-        self.ier = parts.body[IER];
-        self.lcr = parts.body[LCR];
-        self.mcr = parts.body[MCR];
-        self.scr = parts.body[SCR];
-        self.oe = parts.body[OE] == 1;
-        self.fe = parts.fifo[FE] == 1;
-        self.ti = parts.latch[TI] == 1;
-        self.queue = parts.queue();
+        parts.check()?;
+        let [dll, dlm, ier, lcr, mcr, scr, oe] = *parts.body;
+        self.state = UartState {
+            dll,
+            dlm,
+            ier,
+            lcr,
+            mcr,
+            scr,
+            oe: oe == 1,
+            fe: parts.fifo[FE] == 1,
+            ti: parts.latch[TI] == 1,
+            queue: parts.queue(),
+        };
         Ok(())
     }
 

@@ -1,5 +1,6 @@
 // Which bodies and subsections of the serial port pass.
 ghost use Rattle.std.specs.Prelude.{◌≡◌, ◌+◌, ◌^◌, ◌<◌, length, drop};
+ghost use Rattle.std.specs.Result.{result_err};
 ghost use Rattle.uart.specs.Stream as stream;
 ghost use Rattle.uart.specs.declared.state.UartSubsection.TheVariants.{Fifo, Latch};
 
@@ -14,14 +15,17 @@ const MCR_MAX: u8 = 31;
 const FLAG_MAX: u8 = 1;
 
 // A field, refused where it is above `top`. No From leads from a place to a field's number: `as`.
-fn above(fields: &[u8], field: usize, top: u8) -> Option<u16>
+fn above(fields: &[u8], field: usize, top: u8) -> Result<(), u16>
     requires { (field < length fields.now) × (field < 2 ^ 16) }
-    ensures { result ≡ stream.within fields.now field top None }
+    ensures { result_err result ≡ stream.within fields.now field top None }
 {
-    (fields[field] > top).then_some(field as u16)
+    if fields[field] > top {
+        return Err(field as u16);
+    }
+    Ok(())
 }
 
-// The first field from number `from` on that is not 0.
+// The first field from number `from` on that is not 0. Its number is narrowed as above.
 fn nonzero(from: usize, fields: &[u8]) -> Option<u16>
     requires { from + length fields.now < 2 ^ 16 }
     ensures { result ≡ stream.zeros from (drop from fields.now) }
@@ -30,27 +34,27 @@ fn nonzero(from: usize, fields: &[u8]) -> Option<u16>
     Some((from + place) as u16)
 }
 
-// The first refused field of a body.
-pub fn check_body(body: &[u8; BODY_SIZE]) -> Option<u16>
-    ensures { result ≡ stream.check_body body.now }
+// Passes a body, or answers its first refused field.
+pub fn check_body(body: &[u8; BODY_SIZE]) -> Result<(), u16>
+    ensures { result_err result ≡ stream.check_body body.now }
 {
-    above(body, IER, IER_MAX)
-        .or(above(body, MCR, MCR_MAX))
-        .or(above(body, OE, FLAG_MAX))
+    above(body, IER, IER_MAX)?;
+    above(body, MCR, MCR_MAX)?;
+    above(body, OE, FLAG_MAX)
 }
 
-// The first refused field of uart/fifo.
-pub fn check_fifo(fifo: &[u8; FIFO_SIZE]) -> Option<u16>
-    ensures { result ≡ stream.check_sub Fifo fifo.now }
+// Passes uart/fifo, or answers its first refused field.
+pub fn check_fifo(fifo: &[u8; FIFO_SIZE]) -> Result<(), u16>
+    ensures { result_err result ≡ stream.check_sub Fifo fifo.now }
 {
-    above(fifo, FE, FLAG_MAX)
-        .or(above(fifo, COUNT, capacity(fifo[FE] == 1)))
-        .or(nonzero(BYTES + usize::from(fifo[COUNT]), fifo))
+    above(fifo, FE, FLAG_MAX)?;
+    above(fifo, COUNT, capacity(fifo[FE] == 1))?;
+    nonzero(BYTES + usize::from(fifo[COUNT]), fifo).map_or(Ok(()), Err)
 }
 
-// The first refused field of uart/latch.
-pub fn check_latch(latch: &[u8; LATCH_SIZE]) -> Option<u16>
-    ensures { result ≡ stream.check_sub Latch latch.now }
+// Passes uart/latch, or answers its first refused field.
+pub fn check_latch(latch: &[u8; LATCH_SIZE]) -> Result<(), u16>
+    ensures { result_err result ≡ stream.check_sub Latch latch.now }
 {
     above(latch, TI, FLAG_MAX)
 }

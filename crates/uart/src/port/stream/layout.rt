@@ -11,18 +11,10 @@ use device::bits::bit;
 // The one version of the section.
 pub const VERSION: u32 = 1;
 
-// The fields of the body.
-pub const DLL: usize = 0;
-
-pub const DLM: usize = 1;
-
+// The fields of the body that are checked, by their places: a check answers a number, whatever the kind.
 pub const IER: usize = 2;
 
-pub const LCR: usize = 3;
-
 pub const MCR: usize = 4;
-
-pub const SCR: usize = 5;
 
 pub const OE: usize = 6;
 
