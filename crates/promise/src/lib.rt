@@ -1,4 +1,4 @@
-// What boards of any tree promise about moving.
+// What boards of any tree promise about moving: theorems on the definitions.
 #![tactic(auto)]
 
 ghost use Rattle.promise.specs.Editions.{Carriage};

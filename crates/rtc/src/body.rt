@@ -50,7 +50,7 @@ pub(crate) fn size(version: u32) -> usize
     if version >= LAST { END } else { FLAGS }
 }
 
-// A body with every field: absent flags are 0.
+// A body with every field: absent flags are 0. Each kind has this row of its own table of versions.
 pub(crate) fn complete(version: u32, body: &[u8]) -> [u8; END]
     requires { length body.now ≡ total (stream.fields version) }
     ensures { result ≡ stream.complete version body.now }

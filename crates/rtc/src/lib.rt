@@ -101,12 +101,12 @@ impl Device for Rtc {
     ghost sound = { λ clock. clock.sound };
 }
 
-// Does nothing: it promises that an update shows the next second of the day.
+// Does nothing: it promises a theorem on the rules, that an update shows the next second of the day.
 pub fn keeps_time()
     ensures { KeepsTime }
 {}
 
-// Does nothing: it promises what an update at 23:59:59 gives.
+// Does nothing: it promises a theorem on the rules, what an update at 23:59:59 gives.
 pub fn midnight()
     ensures { Midnight }
 {}

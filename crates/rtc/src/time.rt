@@ -59,6 +59,7 @@ impl Coding {
 
 impl Counter {
     // Moves on, and answers whether it carries: a test of its own, as an overflow is, and no success.
+    // No other function takes a counter, so its bounds stand here.
     fn advance(self, coding: Coding, registers: &mut [u8; PLACES]) -> bool
         requires { (self.at < 62) × (self.first < 100) × (self.last < 100) }
         ensures carry { result ≡ (rules.next_in coding.binary self registers.old).1 }

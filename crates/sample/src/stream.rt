@@ -39,7 +39,7 @@ const LATCH_SIZE: usize = 1;
 
 const FLAG_MAX: u8 = 1;
 
-// A body with every field: by default the dial was not turned.
+// A body with every field: by default the dial was not turned. Each kind has this row of its own table of versions.
 fn complete(version: u32, body: &[u8]) -> [u8; END]
     requires { length body.now ≡ body_size rules.dial_format version }
     ensures { result ≡ rules.complete version body.now }

@@ -13,7 +13,7 @@ use device::{Device, Movable, numbers};
 const NUMBER_SIZE: usize = 4;
 
 // Answers how many bytes it wrote. A save counts for itself, since it lends the tree what is left of its buffer: of a method of
-// `Writer` that lends a part of its field, the check proves no clause on what the buffer is afterwards.
+// `Writer` that answers a borrow of the rest, the check proves no clause on what the buffer is afterwards.
 pub fn put(bytes: &[u8], out: &mut [u8]) -> usize
     requires { length bytes.now ≤ length out.old }
     ensures count { result ≡ length bytes.now }

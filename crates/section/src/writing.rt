@@ -9,7 +9,7 @@ use crate::marks;
 use crate::names::NamesBefore;
 use device::{Device, Movable};
 
-// Writes a subsection: tag, name, version and body.
+// Writes a subsection: tag, name, version and body. It asks for a known one, since a kind without any has a value of the type too.
 #[tactic(auto, using(crate::proofs::Writers::writes))]
 fn put_subsection<D: Movable>(device: &D, subsection: D::Subsection, writer: &mut Writer<'_>)
     requires known { D.Movable.numbered subsection < count D.Movable.format }

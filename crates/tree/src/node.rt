@@ -40,7 +40,8 @@ pub trait Node {
         ensures { result ≡ min (on.width model) 18446744073709551615 };
 
     // The leaf that an address belongs to, and the offset inside it. Here and below an address stays a number with a
-    // `requires`: in a struct `Address<Self>` that keeps it below the width, each `impl` had to write these clauses again.
+    // `requires`: with a struct `Address<Self>` that keeps it below the width the check "cannot give this method the clauses of its
+    // trait yet", and each `impl` would write them again.
     fn route(address: u32) -> (u32, u32)
         requires { address < on.width model }
         ensures value { result ≡ on.route model address }
@@ -58,7 +59,7 @@ pub trait Node {
         requires { address < on.width model }
         ensures { (result, state self.new) ≡ calls.read (state self.old) address };
 
-    // Answers the byte that leaves the panel, or none.
+    // Answers the byte that leaves the panel, or none. Address and byte are what a guest hands in; nothing else holds the two.
     fn write(&mut self, address: u32, byte: u8) -> Option<u8>
         requires { address < on.width model }
         ensures { (result, state self.new) ≡ calls.write (state self.old) address byte };

@@ -34,6 +34,7 @@ fn sixteen() -> Sixteen {
     Bus::new(eight(), eight())
 }
 
+// The six numbers that a test compares; plain, as in `Numbers`.
 fn numbers(number: u8, section: u32, detail: u64) -> Numbers {
     Numbers {
         number,

@@ -3,7 +3,7 @@
 
 ghost use Rattle.worked.specs.Worked.{Worked};
 
-// Does nothing: it promises that the worked boards hold of the rules.
+// Does nothing: it promises a theorem, that the worked boards hold of the rules.
 pub fn worked_boards()
     ensures { Worked }
 {}

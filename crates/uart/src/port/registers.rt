@@ -37,7 +37,7 @@ const DATA_READY: u8 = 1;
 const OVERRUN: u8 = 2;
 
 impl Register {
-    // What an offset reaches, by the divisor access bit.
+    // What an offset reaches, by the divisor access bit. No From: a pair would lose the names of its two values.
     fn at(access: bool, offset: u32) -> Register
         ensures { result ≡ rules.register access offset }
     {
@@ -56,7 +56,7 @@ impl Register {
     }
 }
 
-// The number that a guest reads for the pending interrupt.
+// The number that a guest reads for the pending interrupt. No From: it stands for none too.
 fn identification(pending: Option<Interrupt>) -> u8
     ensures number { result ≡ rules.identification pending }
     ensures small { result < 8 }

@@ -35,7 +35,7 @@ impl Uart {
         self.state.ti != bit(TRANSMITTER_ENABLE, self.state.ier)
     }
 
-    // It stays a slice with a `requires`: an array that is returned would only be copied to `out`.
+    // Here and in `write_latch` a slice with a `requires` stays, as the trait lends it: an array would only be copied to it.
     fn write_fifo(&self, out: &mut [u8])
         requires { length out.old ≡ 18 }
         ensures { out.new ≡ stream.sub Fifo (view self.now) }

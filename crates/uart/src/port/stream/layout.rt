@@ -44,6 +44,7 @@ pub fn latch_default(body: &[u8; BODY_SIZE]) -> [u8; LATCH_SIZE]
     [u8::from(bit(TRANSMITTER_ENABLE, body[IER]))]
 }
 
+// Columns of one table: their types and contracts differ.
 impl UartSubsection {
     // The first edition that knows it.
     pub(super) fn known_from(self) -> u32
