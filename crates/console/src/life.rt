@@ -6,6 +6,7 @@ use board::running::Running;
 use board::slip::PauseSlip;
 use board::stopped::Stopped;
 use fault::Fault;
+use script::line::Command;
 
 pub enum Life {
     Running(Running<BaseTree>),
@@ -23,6 +24,16 @@ impl Life {
         match self {
             Life::Running(_) => Reply::Running,
             Life::Stopped(_, _) => Reply::Stopped,
+        }
+    }
+
+    // Carries out a command that changes the board; others leave it as it is.
+    pub fn perform(self, command: Command<'_>) -> (Reply, Life) {
+        match command {
+            Command::Guest(call) => self.guest(call),
+            Command::Stop => self.stop(),
+            Command::Resume => self.resume(),
+            _ => (self.state(), self),
         }
     }
 

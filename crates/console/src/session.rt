@@ -4,7 +4,7 @@ ghost use Rattle.std.specs.Prelude.{◌<◌, IfSome, vec_len};
 use crate::life::Life;
 use crate::reply::Reply;
 use script::line::Command;
-use std::alloc::AllocError;
+use std::alloc::{AllocError, Global};
 use std::fs;
 use thiserror::Error;
 
@@ -15,8 +15,7 @@ struct Named {
 }
 
 #[derive(Drop)]
-pub struct Session<'a> {
-    pub(crate) rt: &'a HostRuntime,
+pub struct Session {
     // The board at hand stands last. The boards stay a list: beside a map the name at hand would be kept a second time.
     boards: Vec<Named>,
 }
@@ -36,18 +35,21 @@ pub enum Trouble<'a> {
     NoMemory(#[from(alloc)] AllocError),
 }
 
-impl<'a> Session<'a> {
-    pub fn new(rt: &'a HostRuntime) -> Session<'a> {
+impl Session {
+    pub fn new(heap: Global) -> Session {
         Session {
-            rt,
-            boards: Vec::new(rt.alloc()),
+            boards: Vec::new(heap),
         }
     }
 
     // Carries out a command.
-    pub fn perform<'c>(&mut self, command: Command<'c>) -> Result<Reply, Trouble<'c>> {
+    pub fn perform<'a>(
+        &mut self,
+        rt: &HostRuntime,
+        command: Command<'a>,
+    ) -> Result<Reply, Trouble<'a>> {
         match command {
-            Command::Board { name } => self.make(name),
+            Command::Board { name } => self.make(rt.alloc(), name),
             Command::On { name } => self.go_on(name),
             Command::Guest(call) => self.change(|life| life.guest(call)),
             Command::Stop => self.change(Life::stop),
@@ -57,21 +59,21 @@ impl<'a> Session<'a> {
                 edition,
                 size,
                 path,
-            } => self.save(edition, size as usize, path),
+            } => self.save(rt, edition, size as usize, path),
         }
     }
 
     // Puts a board at hand, and answers.
-    fn put<'c>(&mut self, named: Named, reply: Reply) -> Result<Reply, Trouble<'c>> {
+    fn put<'a>(&mut self, named: Named, reply: Reply) -> Result<Reply, Trouble<'a>> {
         self.boards.push(named)?;
         Ok(reply)
     }
 
     // Carries out what changes the board at hand.
-    fn change<'c, F: FnOnce(Life) -> (Reply, Life)>(
+    fn change<'a, F: FnOnce(Life) -> (Reply, Life)>(
         &mut self,
         step: F,
-    ) -> Result<Reply, Trouble<'c>>
+    ) -> Result<Reply, Trouble<'a>>
         requires { F.IsAlwaysCallable step }
     {
         let Named { name, life } = self.boards.pop().ok_or(Trouble::NoBoard)?;
@@ -88,16 +90,16 @@ impl<'a> Session<'a> {
             .position(|named| named.name.as_str() == name)
     }
 
-    fn make<'c>(&mut self, name: &'c str) -> Result<Reply, Trouble<'c>> {
+    fn make<'a>(&mut self, heap: Global, name: &'a str) -> Result<Reply, Trouble<'a>> {
         if self.find(name).is_some() {
             return Err(Trouble::NameTaken(name));
         }
-        let name = String::from_str(self.rt.alloc(), name)?;
+        let name = String::from_str(heap, name)?;
         let life = Life::new();
         self.put(Named { name, life }, Reply::Running)
     }
 
-    fn go_on<'c>(&mut self, name: &'c str) -> Result<Reply, Trouble<'c>> {
+    fn go_on<'a>(&mut self, name: &'a str) -> Result<Reply, Trouble<'a>> {
         let place = self.find(name).ok_or(Trouble::UnknownBoard(name))?;
         let named = self.boards.remove(place);
         let state = named.life.state();
@@ -105,15 +107,21 @@ impl<'a> Session<'a> {
     }
 
     // Saves the board at hand, and keeps the stream in a file.
-    fn save<'c>(&self, edition: u32, size: usize, path: &'c str) -> Result<Reply, Trouble<'c>> {
+    fn save<'a>(
+        &self,
+        rt: &HostRuntime,
+        edition: u32,
+        size: usize,
+        path: &'a str,
+    ) -> Result<Reply, Trouble<'a>> {
         let named = self.boards.last().ok_or(Trouble::NoBoard)?;
-        let mut buffer = vec![in self.rt.alloc(); 0u8; size]?;
+        let mut buffer = vec![in rt.alloc(); 0u8; size]?;
         Ok(match named.life.save(edition, buffer.as_mut_slice()) {
             None => Reply::NotAdmitted,
             Some(Err(fault)) => Reply::Refused(fault),
             Some(Ok(length)) => {
                 buffer.truncate(length);
-                fs::write(self.rt, path, buffer.as_slice()).map_err(|_| Trouble::Unwritable(path))?;
+                fs::write(rt, path, buffer.as_slice()).map_err(|_| Trouble::Unwritable(path))?;
                 Reply::Saved(length)
             }
         })

@@ -1,5 +1,5 @@
 -- Numbers of four bytes: a number is the value of its bytes, and bytes are those of their value.
-use Rattle.std.proofs.Common.{◌≡◌, ℕ, ◌+◌, ◌*◌, ◌/◌, ◌%◌, ◌^◌, ◌<◌, List, [], ◌∷◌, length, get_or, refl, ap, ◌∙◌, arith}
+use Rattle.std.proofs.Common.{◌≡◌, ℕ, ◌+◌, ◌*◌, ◌/◌, ◌%◌, ◌^◌, ◌<◌, List, [], ◌∷◌, length, get_or, ap, ◌∙◌, arith}
 use Rattle.std.proofs.lemmas.Nat.{from_be_bytes-to_be_bytes_4}
 use Rattle.device.specs.Bytes.{Bytes, four, value}
 
@@ -21,6 +21,8 @@ pub value-at :
     → value xs ≡ get_or xs 0 0 * 16777216 + get_or xs 1 0 * 65536 + get_or xs 2 0 * 256 + get_or xs 3 0
 value-at =
     fours (λ xs. value xs ≡ get_or xs 0 0 * 16777216 + get_or xs 1 0 * 65536 + get_or xs 2 0 * 256 + get_or xs 3 0) value-is
+
+pub ruleset values = (value-at)
 
 pub value-four : (n : ℕ) → n < 2 ^ 32 → value (four n) ≡ n
 value-four n h = value-is _ _ _ _ ∙ from_be_bytes-to_be_bytes_4 n h

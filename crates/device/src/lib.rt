@@ -80,8 +80,8 @@ pub trait Device {
 
 // A device whose state can travel. It is first of all a device: what it writes and adopts is the state that it is in.
 pub trait Movable: Device {
-    // The subsections of the kind. A kind without any has `()`, since a function that takes a value of an empty type could
-    // not be called, and the check refuses it.
+    // The subsections of the kind. A kind without any has a type with values all the same, since a function that takes a value
+    // of an empty type could not be called, and the check refuses it.
     type Subsection: Copy + 'static;
 
     // How its states travel.

@@ -5,6 +5,7 @@ ghost use Rattle.device.specs.Bytes.{four, value};
 use crate::bytes::array;
 
 // The number that four bytes stand for.
+#[tactic(auto, using(crate::proofs::FourBytes::values))]
 pub fn number(bytes: &[u8]) -> u32
     requires { length bytes.now ≡ 4 }
     ensures { result ≡ value bytes.now }

@@ -88,7 +88,7 @@ module _ (rate : ℕ) where
   storing-sound s k v l h =
       holding-sound s _ h (set-kept s.registers k (stored k v) (kept s h) (stored-a k v) (stored-b k v l))
 
-  write-sound : (s : RtcState) (o v : ℕ) → v < 256 → Sound rate s → Sound rate (write s o v)
+  pub write-sound : (s : RtcState) (o v : ℕ) → v < 256 → Sound rate s → Sound rate (write s o v)
   write-sound s o v l h =
       let r = s.index in
       cond_both (eqb o 0) _ _ (Sound rate) (λ _. (omega arith, h.1, h.2, h.3, h.4))

@@ -7,8 +7,8 @@ ghost use Rattle.rtc.specs.Stream as stream;
 
 use crate::RATE;
 use crate::registers::{REG_A, REG_B, UF, stored_b};
-use crate::state::RtcState;
-use device::bytes::{array, padded};
+use crate::state::{PLACES, RtcState};
+use device::bytes::padded;
 use device::numbers::{number, put_number};
 
 // The versions: the last has every field, the first has no flags.
@@ -50,12 +50,13 @@ pub(crate) fn size(version: u32) -> usize
     if version >= LAST { END } else { FLAGS }
 }
 
-// A body with every field: absent flags are 0. Each kind has this row of its own table of versions.
+// A body with every field: absent flags are 0. Each kind has this row of its own table of versions. The version says how many bytes
+// are taken, so that a body is not read as one of another version.
 pub(crate) fn complete(version: u32, body: &[u8]) -> [u8; END]
     requires { length body.now ≡ total (stream.fields version) }
     ensures { result ≡ stream.complete version body.now }
 {
-    padded(body)
+    padded(&body[..size(version)])
 }
 
 impl RtcState {
@@ -93,9 +94,11 @@ impl RtcState {
     fn of_fields(body: &[u8; END]) -> RtcState
         ensures { result ≡ stream.state_of body.now }
     {
+        let mut registers = [0; PLACES];
+        registers.copy_from_slice(&body[REGISTERS..PHASE]);
         RtcState {
             index: body[INDEX],
-            registers: *array(&body[REGISTERS..PHASE]),
+            registers,
             phase: number(&body[PHASE..FLAGS]),
             updated: body[FLAGS] == UF,
         }

@@ -13,12 +13,12 @@ use device::adoption::NotAdopted;
 const WRITES_LAST: u32 = 3;
 
 impl Movable for Rtc {
-    // There are no subsections. What is said of one is true of one that would have no name and no fields.
-    type Subsection = ();
+    // There are no subsections. What is said of one by its number is said here of every number.
+    type Subsection = u8;
 
     ghost format = { stream.format ticks_per_second };
 
-    ghost numbered = { λ _. 0 };
+    ghost numbered = { λ number. number };
 
     fn lawful() {}
 
@@ -30,19 +30,19 @@ impl Movable for Rtc {
         (FIRST..=Rtc::writes(edition)).contains(&version)
     }
 
-    fn subsections() -> &'static [()] {
+    fn subsections() -> &'static [u8] {
         &[]
     }
 
-    fn number(subsection: ()) -> u8 {
-        0
+    fn number(subsection: u8) -> u8 {
+        subsection
     }
 
-    fn knows(edition: u32, subsection: ()) -> bool {
+    fn knows(edition: u32, subsection: u8) -> bool {
         false
     }
 
-    fn title(subsection: ()) -> &'static [u8] {
+    fn title(subsection: u8) -> &'static [u8] {
         b""
     }
 
@@ -50,11 +50,11 @@ impl Movable for Rtc {
         body::size(version)
     }
 
-    fn subsection_size(subsection: ()) -> usize {
+    fn subsection_size(subsection: u8) -> usize {
         0
     }
 
-    fn needs(&self, subsection: ()) -> bool {
+    fn needs(&self, subsection: u8) -> bool {
         false
     }
 
@@ -67,18 +67,18 @@ impl Movable for Rtc {
         out.copy_from_slice(&self.state.body()[..body::size(version)]);
     }
 
-    fn write_subsection(&self, subsection: (), out: &mut [u8]) {}
+    fn write_subsection(&self, subsection: u8, out: &mut [u8]) {}
 
     fn check_body(version: u32, body: &[u8]) -> Result<(), u16> {
         RtcState::read(&body::complete(version, body))?;
         Ok(())
     }
 
-    fn check_subsection(version: u32, body: &[u8], subsection: (), own: &[u8]) -> Result<(), u16> {
+    fn check_subsection(version: u32, body: &[u8], subsection: u8, own: &[u8]) -> Result<(), u16> {
         Ok(())
     }
 
-    fn is_needed(version: u32, body: &[u8], subsection: (), own: &[u8]) -> bool {
+    fn is_needed(version: u32, body: &[u8], subsection: u8, own: &[u8]) -> bool {
         false
     }
 

@@ -32,3 +32,13 @@ step {a} {buffer} {xs} {ys} {c} {n} {m} b e w k h v =
       room = h;
       value = simp (front, v, e, part, post, append-nil, append_assoc, length-append, drop-drop);
     }
+
+-- the same bytes, count and buffer in another form
+pub regroup :
+    {a buffer xs ys : List ℕ} {n m : ℕ} (b : List ℕ) → Wrote a n buffer xs → m ≡ n → ys ≡ xs → a ≡ b → Wrote b m buffer ys
+regroup {buffer = buffer} b w n v e =
+    record {
+      count = n ∙ w.count ∙ ap length e;
+      room = omega (arith, n, w.room);
+      value = v ∙ w.value ∙ ap (λ bs. over bs buffer) e;
+    }

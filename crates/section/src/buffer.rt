@@ -24,6 +24,39 @@ pub fn put(bytes: &[u8], out: &mut [u8]) -> usize
     n
 }
 
+// Writes a number as four bytes, the highest first.
+pub fn put_number(number: u32, out: &mut [u8]) -> usize
+    requires { 4 ≤ length out.old }
+    ensures count { result ≡ 4 }
+    ensures buffer { out.new ≡ over (four number) out.old }
+{
+    numbers::put_number(&mut out[0..NUMBER_SIZE], number);
+    NUMBER_SIZE
+}
+
+// Writes the number of the leaf after these names.
+pub fn put_leaf_number(before: &NamesBefore, out: &mut [u8]) -> usize
+    requires { 4 ≤ length out.old }
+    ensures count { result ≡ 4 }
+    ensures buffer { out.new ≡ over (four (length before.now)) out.old }
+{
+    put_number(before.number(), out)
+}
+
+// Writes the identity of the leaf after these names.
+#[tactic(auto, using(crate::proofs::Writers::writes, crate::proofs::Sizes::lengths))]
+pub fn put_identity(before: &NamesBefore, name: &[u8], out: &mut [u8]) -> usize
+    requires name { length name.now ≤ 16 }
+    requires room { 9 + length name.now ≤ length out.old }
+    ensures count { result ≡ length (identity before.now name.now) }
+    ensures size { result ≡ 9 + length name.now }
+    ensures buffer { out.new ≡ over (identity before.now name.now) out.old }
+{
+    let mut writer = Writer::new(out);
+    writer.put_identity(before, name);
+    writer.written()
+}
+
 // A buffer that is written from its front on.
 #[derive(Drop)]
 pub(crate) struct Writer<'a> {
@@ -58,9 +91,15 @@ impl<'a> Writer<'a> {
         requires { HasRoom self.old 4 }
         ensures { self.new ≡ with_bytes self.old (four number) }
     {
-        let end = self.written + NUMBER_SIZE;
-        numbers::put_number(&mut self.out[self.written..end], number);
-        self.written = end;
+        self.written += put_number(number, &mut self.out[self.written..]);
+    }
+
+    // Writes the number of the leaf after these names.
+    pub(crate) fn put_leaf_number(&mut self, before: &NamesBefore)
+        requires { HasRoom self.old 4 }
+        ensures { self.new ≡ with_bytes self.old (four (length before.now)) }
+    {
+        self.written += put_leaf_number(before, &mut self.out[self.written..]);
     }
 
     // Writes the body of a version. It and the next differ in what they ask of the device alone; a function that takes that as a
@@ -91,7 +130,7 @@ impl<'a> Writer<'a> {
         requires room { HasRoom self.old (9 + length name.now) }
         ensures { self.new ≡ with_bytes self.old (identity before.now name.now) }
     {
-        self.put_number(before.number());
+        self.put_leaf_number(before);
         self.put(&[name.len() as u8]);
         self.put(name);
         self.put_number(before.instance(name));

@@ -60,6 +60,6 @@ pub fn put_section<D: Movable>(
     writer.put_body(device, version);
     put_subsections(device, &mut writer);
     writer.put(&[marks::CLOSING]);
-    writer.put_number(before.number());
+    writer.put_leaf_number(before);
     writer.written()
 }

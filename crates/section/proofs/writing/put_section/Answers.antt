@@ -22,8 +22,7 @@ returns g c =
     let id = rw c.name.ensures at c.put_identity.ensures in
     let version = rw c.writes-version.ensures at c.put_number.ensures in
     let body = rw c.writes-version.ensures at c.put_body.ensures in
-    let last = rw c.number.ensures.value at c.put_number-2.ensures in
-    let end = then _ _ _ c.put_subsections.ensures (then _ _ _ c.put-2.ensures last) in
-    let whole : c.put_number-2.new.self ≡ with_bytes c.new-writer.result (laid g.D.Device.kind f c.args.before.now x) =
+    let end = then _ _ _ c.put_subsections.ensures (then _ _ _ c.put-2.ensures c.put_leaf_number.ensures) in
+    let whole : c.put_leaf_number.new.self ≡ with_bytes c.new-writer.result (laid g.D.Device.kind f c.args.before.now x) =
     then _ _ _ c.put.ensures (then _ _ _ id (then _ _ _ version (then _ _ _ body end))) in
     grind (arith, writes, whole, size, c.new-writer.ensures)
