@@ -94,6 +94,7 @@ impl RtcState {
     fn of_fields(body: &[u8; END]) -> RtcState
         ensures { result ≡ stream.state_of body.now }
     {
+        // Copied out: by `*array(..)` a check took three times as long.
         let mut registers = [0; PLACES];
         registers.copy_from_slice(&body[REGISTERS..PHASE]);
         RtcState {
